@@ -1,0 +1,3 @@
+-- The definitions that the contracts of `audit` cite.
+pub mod Bits
+pub mod Check

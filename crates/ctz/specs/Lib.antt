@@ -1,0 +1,4 @@
+-- The definitions that the contracts of `ctz` cite.
+pub mod Lists
+pub mod Lookup
+pub mod Visits
