@@ -26,9 +26,10 @@ falls ptr N zero k met =
     elim (ltb k N)
     [ false ↦ Unsound (NotBelow 0 0) | true ↦ elim (among k met) [ true ↦ Unsound (MetBefore 0 0) | false ↦ Sound ] ]
 falls ptr N (suc i) k met =
-    elim (ltb k N)
-    [ false ↦ Unsound (NotBelow (suc i) 0)
-    | true ↦ elim (among k met) [ true ↦ Unsound (MetBefore (suc i) 0) | false ↦ falls ptr N i (ptr k 0) (k ∷ met) ] ]
+    elim (ltb k N) [
+      | false ↦ Unsound (NotBelow (suc i) 0)
+      | true ↦ elim (among k met) [ true ↦ Unsound (MetBefore (suc i) 0) | false ↦ falls ptr N i (ptr k 0) (k ∷ met) ]
+    ]
 
 -- If that is clean the further pointers, pointer number rising: so many of index i, whose block is k, from pointer x on.
 -- Each names the block that lies 2 ^ x indexes below.
@@ -51,14 +52,17 @@ further ptr (suc i) k = andThen (names ptr (ctz (suc i)) (suc i) k 1) (further p
 -- An empty list is sound exactly if its head is null; else its fault is a kind of its own. A size above the largest is -22.
 unfoldable pub checkOf : ℕ → ℕ → List ℕ → ℕ → ℕ → Checked
 checkOf B N image head size =
-    elim (goodCard B N (length image))
-    [ false ↦ Refused
-    | true ↦ elim (ltb 2147483647 size)
-      [ true ↦ Refused
-      | false ↦ elim (eqb size 0)
-        [ true ↦ elim (eqb head 4294967295) [ true ↦ Sound | false ↦ Unsound (NotNull 0 0) ]
-        | false ↦
-          andThen (falls (pointer image B) N (indexAt B (size - 1)) head []) (further (pointer image B) (indexAt B (size - 1)) head) ] ] ]
+    elim (goodCard B N (length image)) [
+      | false ↦ Refused
+      | true ↦ elim (ltb 2147483647 size) [
+        | true ↦ Refused
+        | false ↦ elim (eqb size 0) [
+          | true ↦ elim (eqb head 4294967295) [ true ↦ Sound | false ↦ Unsound (NotNull 0 0) ]
+          | false ↦
+              andThen (falls (pointer image B) N (indexAt B (size - 1)) head []) (further (pointer image B) (indexAt B (size - 1)) head)
+        ]
+      ]
+    ]
 
 -- 01's number and values for each case: kind 0 is sound, then the kinds in the order of 01
 abbrev pub codeOf : Checked → ℤ

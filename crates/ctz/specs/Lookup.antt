@@ -17,11 +17,13 @@ use Rattle.ctz.specs.declared.Found.the-variants.{At, Damaged, Refused}
 unfoldable pub walk : ℕ → (ℕ → ℕ → ℕ) → ℕ → ℕ → ℕ → ℕ → ℕ → ℕ → Found
 walk zero ptr N off tgt cur k hops = Damaged
 walk (suc fuel) ptr N off tgt cur k hops =
-    elim (ltb k N)
-    [ false ↦ Damaged
-    | true ↦ elim (ltb tgt cur)
-      [ false ↦ At k off hops
-      | true ↦ walk fuel ptr N off tgt (cur - 2 ^ pick cur tgt) (ptr k (pick cur tgt)) (suc hops) ] ]
+    elim (ltb k N) [
+      | false ↦ Damaged
+      | true ↦ elim (ltb tgt cur) [
+        | false ↦ At k off hops
+        | true ↦ walk fuel ptr N off tgt (cur - 2 ^ pick cur tgt) (ptr k (pick cur tgt)) (suc hops)
+      ]
+    ]
 
 -- from the index of size - 1 to the index of position p
 unfoldable pub walkTo : List ℕ → ℕ → ℕ → ℕ → ℕ → ℕ → Found
@@ -32,13 +34,16 @@ walkTo image B N head size p =
 -- Otherwise a position at or past the size is -22.
 unfoldable pub lookupOf : ℕ → ℕ → List ℕ → ℕ → ℕ → ℕ → Found
 lookupOf B N image head size p =
-    elim (goodCard B N (length image))
-    [ false ↦ Refused
-    | true ↦ elim (ltb 2147483647 size)
-      [ true ↦ Refused
-      | false ↦ elim (eqb size 0)
-        [ true ↦ At 4294967295 0 0
-        | false ↦ elim (ltb p size) [ false ↦ Refused | true ↦ walkTo image B N head size p ] ] ] ]
+    elim (goodCard B N (length image)) [
+      | false ↦ Refused
+      | true ↦ elim (ltb 2147483647 size) [
+        | true ↦ Refused
+        | false ↦ elim (eqb size 0) [
+          | true ↦ At 4294967295 0 0
+          | false ↦ elim (ltb p size) [ false ↦ Refused | true ↦ walkTo image B N head size p ]
+        ]
+      ]
+    ]
 
 -- 01's number and values for each case
 abbrev pub codeOf : Found → ℤ

@@ -44,11 +44,13 @@ nextVisit ptr v =
 -- one step of a visit
 unfoldable pub stepOf : (ℕ → ℕ → ℕ) → ℕ → Visit → Step
 stepOf ptr N v =
-    elim (ltb (v .block) N)
-    [ false ↦ step.Damaged
-    | true ↦ elim (eqb (v .index) 0)
-      [ true ↦ step.Last (v .block)
-      | false ↦ step.More (v .block) (nextVisit ptr v) ] ]
+    elim (ltb (v .block) N) [
+      | false ↦ step.Damaged
+      | true ↦ elim (eqb (v .index) 0) [
+        | true ↦ step.Last (v .block)
+        | false ↦ step.More (v .block) (nextVisit ptr v)
+      ]
+    ]
 
 -- the step of a card's image, -22 where it is none
 unfoldable pub traverseOf : ℕ → ℕ → List ℕ → Visit → Step
@@ -61,11 +63,13 @@ visitAt head top = record { index = top; block = head; held = false; after = 0 }
 
 unfoldable pub beginOf : ℕ → ℕ → ℕ → ℕ → Begun
 beginOf B N head size =
-    elim (cardFits B N)
-    [ false ↦ begun.Refused
-    | true ↦ elim (ltb 2147483647 size)
-      [ true ↦ begun.Refused
-      | false ↦ elim (eqb size 0) [ true ↦ begun.Empty | false ↦ begun.At (visitAt head (indexAt B (size - 1))) ] ] ]
+    elim (cardFits B N) [
+      | false ↦ begun.Refused
+      | true ↦ elim (ltb 2147483647 size) [
+        | true ↦ begun.Refused
+        | false ↦ elim (eqb size 0) [ true ↦ begun.Empty | false ↦ begun.At (visitAt head (indexAt B (size - 1))) ]
+      ]
+    ]
 
 -- the numbers that a whole visit hands over, in order, and whether it came to its end (false: -84)
 pub record Visited : Type 0 where
@@ -80,10 +84,11 @@ unfoldable pub visit : (ℕ → ℕ → ℕ) → ℕ → ℕ → ℕ → Bool �
 visit ptr N zero k held after =
     elim (ltb k N) [ false ↦ record { handed = []; clean = false } | true ↦ record { handed = k ∷ []; clean = true } ]
 visit ptr N (suc i) k held after =
-    elim (ltb k N)
-    [ false ↦ record { handed = []; clean = false }
-    | true ↦
-      hand k (visit ptr N i (nextBlock ptr k held after) (reads-two (suc i) held) (nextAfter ptr k (reads-two (suc i) held))) ]
+    elim (ltb k N) [
+      | false ↦ record { handed = []; clean = false }
+      | true ↦
+          hand k (visit ptr N i (nextBlock ptr k held after) (reads-two (suc i) held) (nextAfter ptr k (reads-two (suc i) held)))
+    ]
 
 -- the visit of a file's list: an empty list hands nothing over
 unfoldable pub visitOf : ℕ → ℕ → List ℕ → ℕ → ℕ → Visited

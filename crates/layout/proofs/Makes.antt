@@ -21,4 +21,3 @@ made-fits B N g e = made-if (cardFits B N) (record { «block_size» = B; «block
 
 pub refused-fits : (B N : ℕ) → madeOf B N ≡ Refused → cardFits B N ≡ false
 refused-fits B N e = refused-if (cardFits B N) (record { «block_size» = B; «block_count» = N }) e
-
