@@ -1,0 +1,5 @@
+-- The laws of the device, for the crates above.
+pub mod Steps
+pub mod Bounds
+pub mod Frame
+pub mod Health

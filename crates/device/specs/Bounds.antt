@@ -1,0 +1,22 @@
+-- What the device's steps ask of their numbers.
+use mathlib.Core.Logic.{_⊎_}
+use mathlib.Core.List.{List}
+use Prim.Native.Nat.{ℕ, _+_, _*_, _≤_, _<_}
+use lib.ListN.{length}
+
+-- block k lies within the image and has a health byte
+pub record Block (B k : ℕ) (image health : List ℕ) : Type 0 where
+  pub inside : k * B + B ≤ length image
+  pub known : k < length health
+
+-- so do n bytes of it from offset o on
+pub record Room (B k o n : ℕ) (image health : List ℕ) : Type 0 where
+  pub inside : k * B + B ≤ length image
+  pub known : k < length health
+  pub room : o + n ≤ B
+
+-- n bytes from offset p of block j can be copied there, rising: they lie within their block, and a byte that is read was not stored to
+pub record Source (B k o j p n : ℕ) (image : List ℕ) : Type 0 where
+  pub within : j * B + B ≤ length image
+  pub room : p + n ≤ B
+  pub apart : (k * B + o ≤ j * B + p) ⊎ (j * B + p + n ≤ k * B + o)
