@@ -1,1 +1,8 @@
--- The laws of `ctz`.
+-- The laws of lookup and visit.
+pub mod Room
+pub mod Walked
+pub mod Lookups
+pub mod Counts
+pub mod Steps
+pub mod Visiting
+mod Examples

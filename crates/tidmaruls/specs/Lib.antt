@@ -1,2 +1,2 @@
 -- The definitions that the exported calls' contracts cite.
-pub mod Told
+pub mod Lists

@@ -1,0 +1,94 @@
+-- Lookup and visit of a sound list on an image, and demand 3. Assumes nothing.
+use mathlib.Core.Path.{_≡_, refl, sym, ap, _∙_}
+use mathlib.Core.Bool.{true}
+use mathlib.Core.List.{List, []}
+use Prim.Native.Nat.{ℕ, _-_, _≤_, _<_}
+use native.Mathlib.Omega.{arith}
+use borrow.Author.Tests.{lt-ltb, le-ltb, ne-eqb, eq-eqb}
+use Rattle.hops.specs.Walk.{hops}
+use Rattle.hops.proofs.Bound.{bound-none, bound-one, bound}
+use Rattle.layout.specs.Layout.{indexAt, offsetAt}
+use Rattle.card.specs.Blocks.{pointer}
+use Rattle.ctz.specs.Lists.{at, SoundList}
+use Rattle.ctz.specs.Lookup.{walkTo, lookupOf}
+use Rattle.ctz.specs.declared.Found.the-variants.{At, Refused}
+use Rattle.ctz.specs.Visits.{visitOf}
+use Rattle.plain.specs.Lists.{Good, countdown}
+use Rattle.plain.specs.Demand.{Fewest}
+use Rattle.plain.proofs.Lookups.{walk-finds, least-stored, some-stored}
+use Rattle.plain.proofs.Visits.{visited}
+use Rattle.plain.proofs.Indexes.{index-le, top-small}
+
+-- ---- lookup by its cases
+
+module _ (B N : ℕ) (image : List ℕ) (head size p : ℕ) (g : Good B N image size) where
+  -- an empty list gives the null block, whatever the position
+  pub lookup-empty : size ≡ 0 → lookupOf B N image head size p ≡ At 4294967295 0 0
+  unfolding lookupOf
+  lookup-empty z = rw (lookupOf, g .good, le-ltb 2147483647 size (g .fits), eq-eqb size 0 z)
+
+  -- a position at or past the size is refused
+  pub lookup-past : (size ≡ 0 → ⊥) → size ≤ p → lookupOf B N image head size p ≡ Refused
+  unfolding lookupOf
+  lookup-past z h = rw (lookupOf, g .good, le-ltb 2147483647 size (g .fits), ne-eqb size 0 z, le-ltb p size h)
+
+  -- below the size a lookup is the walk
+  pub lookup-walk : p < size → lookupOf B N image head size p ≡ walkTo image B N head size p
+  unfolding lookupOf
+  lookup-walk h =
+      let z : size ≡ 0 → ⊥ = λ e. omega arith in
+      rw (lookupOf, g .good, le-ltb 2147483647 size (g .fits), ne-eqb size 0 z, lt-ltb p size h)
+
+-- ---- of a sound list
+
+module _ {B N : ℕ} {image : List ℕ} {head size : ℕ} (g : Good B N image size) (s : SoundList image B N head size) where
+  abbrev top : ℕ
+  top = indexAt B (size - 1)
+
+  abbrev blk : ℕ → ℕ
+  blk i = at (pointer image B) head top i
+
+  -- the walk ends at the block of the position's index and its offset, after the hops of the walk over indexes
+  pub walk-sound : (p : ℕ) → p < size → walkTo image B N head size p ≡ At (blk (indexAt B p)) (offsetAt B p) (hops top (indexAt B p))
+  unfolding walkTo
+  walk-sound p h = walk-finds (s .list (omega arith)) (top-small g (omega arith)) (offsetAt B p) (indexAt B p) (index-le B size p h)
+
+  -- and that is what a lookup answers
+  pub lookup-sound : (p : ℕ) → p < size → lookupOf B N image head size p ≡ At (blk (indexAt B p)) (offsetAt B p) (hops top (indexAt B p))
+  lookup-sound p h = lookup-walk B N image head size p g h ∙ walk-sound p h
+
+  -- whatever block a lookup answers is that of the position
+  pub lookup-block : (p k o h : ℕ) → p < size → lookupOf B N image head size p ≡ At k o h → blk (indexAt B p) ≡ k
+  lookup-block p k o h l e = let q = sym (lookup-sound p l) ∙ e in cc
+
+  -- and so is its offset
+  pub lookup-offset : (p k o h : ℕ) → p < size → lookupOf B N image head size p ≡ At k o h → offsetAt B p ≡ o
+  lookup-offset p k o h l e = let q = sym (lookup-sound p l) ∙ e in cc
+
+  -- DEMAND 3: the hops of a lookup are the length of the least chain of stored pointers, and few
+  pub fewest : (p : ℕ) → p < size → Fewest image B N head size p
+  fewest p h =
+      let l = s .list (omega arith) in
+      let w = top-small g (omega arith) in
+      record {
+        number = hops top (indexAt B p);
+        answer = lookup-sound p h;
+        walked = refl;
+        chain = some-stored l w (indexAt B p) (index-le B size p h);
+        least = least-stored l w (indexAt B p);
+        none = λ e. ap (hops top) (sym e) ∙ bound-none top w;
+        one = bound-one top (indexAt B p) w;
+        twice = bound top (indexAt B p) w;
+      }
+
+  -- the visit of an empty list hands nothing over
+  pub visit-empty : size ≡ 0 → visitOf B N image head size ≡ record { handed = []; clean = true }
+  unfolding visitOf
+  visit-empty z = rw (visitOf, eq-eqb size 0 z)
+
+  -- the visit of any other hands over exactly its blocks, last index first
+  pub visit-sound : 0 < size → visitOf B N image head size ≡ record { handed = countdown blk top; clean = true }
+  unfolding visitOf
+  visit-sound h =
+      let z : size ≡ 0 → ⊥ = λ e. omega arith in
+      rw (visitOf, ne-eqb size 0 z) (visited (s .list h))

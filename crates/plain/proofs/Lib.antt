@@ -1,0 +1,20 @@
+-- The theorems on sound lists.
+pub mod Walks
+pub mod Pigeons
+pub mod Lookups
+pub mod Countdowns
+pub mod Visits
+pub mod Growing
+pub mod Spans
+pub mod Indexes
+pub mod Finding
+pub mod Files
+pub mod Reading
+pub mod Checking
+pub mod Faults
+pub mod Frames
+pub mod Filling
+pub mod Following
+pub mod Plain
+pub mod Cells
+mod Examples

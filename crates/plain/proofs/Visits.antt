@@ -1,0 +1,121 @@
+-- The visit of a sound list hands over each of its blocks once, last index first. Over stored pointers alone. Assumes nothing.
+use mathlib.Core.Path.{_≡_, refl, sym, ap, _∙_}
+use mathlib.Core.Bool.{Bool, true, false}
+use mathlib.Core.List.{List}
+use Prim.Native.Nat.{ℕ, zero, suc, _-_, _%_, _≤_, _<_}
+use native.Mathlib.Omega.{arith}
+use borrow.Author.Tests.{lt-ltb, eqb-false}
+use lib.Count.{trailingZeros}
+use lib.Dec.{eqb}
+use lib.ListN.{length, getD}
+use Rattle.hops.specs.Walk.{ctz}
+use Rattle.ctz.specs.Lists.{at, Sound}
+use Rattle.ctz.specs.Visits.{Visited, visit, hand, nextBlock, nextAfter, reads-two}
+use Rattle.audit.specs.Check.{among}
+use Rattle.plain.specs.Lists.{countdown}
+use Rattle.plain.proofs.Walks.{at-top, at-next}
+use Rattle.plain.proofs.Countdowns.{length-countdown, getD-countdown, among-countdown, countdown-among}
+
+-- an even number has a trailing zero
+ctz-even : (n : ℕ) → n % 2 ≡ 0 → 1 ≤ ctz n
+unfolding trailingZeros
+ctz-even n e = rw e (omega arith)
+
+-- one turn of the visit
+visit-turn : (ptr : ℕ → ℕ → ℕ) (N i k : ℕ) → k < N → (held : Bool) (after : ℕ)
+    → visit ptr N (suc i) k held after
+    ≡ hand k (visit ptr N i (nextBlock ptr k held after) (reads-two (suc i) held) (nextAfter ptr k (reads-two (suc i) held)))
+unfolding visit
+visit-turn ptr N i k h held after = rw (visit, lt-ltb k N h)
+
+abbrev whole : List ℕ → Visited
+whole l = record { handed = l; clean = true }
+
+module _ {ptr : ℕ → ℕ → ℕ} {N head top : ℕ} (s : Sound ptr N head top) where
+  abbrev blk : ℕ → ℕ
+  blk i = at ptr head top i
+
+  -- what is held is the number of the index below
+  abbrev Held : ℕ → Bool → ℕ → Type 0
+  Held i held after = held ≡ true → (j : ℕ) → i ≡ suc j → after ≡ blk j
+
+  free : (i after : ℕ) → Held i false after
+  free i after z = absurd (let q : _≡_ {A = ℕ} 0 1 = cc in omega arith)
+
+  -- behind index i + 1: the block of index i, and if a number is held then the one below it
+  next-block : (i : ℕ) → suc i ≤ top → (held : Bool) (after : ℕ) → Held (suc i) held after → nextBlock ptr (blk (suc i)) held after ≡ blk i
+  next-block i h true after e = e refl i refl
+  next-block i h false after e = at-next ptr head top i h
+
+  next-held : (i : ℕ) → suc i ≤ top → (held : Bool) → Held i (reads-two (suc i) held) (nextAfter ptr (blk (suc i)) (reads-two (suc i) held))
+  next-held i h true = free i 0
+  next-held i h false = go (eqb (suc i % 2) 1) refl
+    where
+      go : (t : Bool) → eqb (suc i % 2) 1 ≡ t
+          → Held i (elim t [ true ↦ false | false ↦ true ]) (nextAfter ptr (blk (suc i)) (elim t [ true ↦ false | false ↦ true ]))
+      go true o = free i 0
+      go false o =
+          let odd = eqb-false (suc i % 2) 1 o in
+          λ z j q. s .agree (suc i) 1 (omega arith) h (omega arith) (ctz-even (suc i) (omega arith)) ∙ ap blk (omega arith)
+
+  visit-from : (i : ℕ) → i ≤ top → (held : Bool) (after : ℕ) → Held i held after → visit ptr N i (blk i) held after ≡ whole (countdown blk i)
+  unfolding visit countdown
+  visit-from zero h held after e = rw (visit, lt-ltb (blk 0) N (s .below 0 h))
+  visit-from (suc i) h held after e =
+      let two = reads-two (suc i) held in
+      let later = nextAfter ptr (blk (suc i)) two in
+      visit-turn ptr N i (blk (suc i)) (s .below (suc i) h) held after
+      ∙ ap (λ (k : ℕ). hand (blk (suc i)) (visit ptr N i k two later)) (next-block i h held after e)
+      ∙ ap (hand (blk (suc i))) (visit-from i (omega arith) two later (next-held i h held))
+
+  -- the visit hands over exactly at top, .., at 0, and meets no -84
+  pub visited : visit ptr N top head false 0 ≡ whole (countdown blk top)
+  visited = ap (λ (k : ℕ). visit ptr N top k false 0) (sym (at-top ptr head top)) ∙ visit-from top (omega arith) false 0 (free top 0)
+
+-- ---- what is handed over, by place and as a test
+
+module _ {ptr : ℕ → ℕ → ℕ} {N head top : ℕ} (s : Sound ptr N head top) where
+  abbrev handed-over : List ℕ
+  handed-over = visit ptr N top head false 0 .handed
+
+  handed-is : handed-over ≡ countdown (at ptr head top) top
+  handed-is = ap (λ (v : Visited). v .handed) (visited s)
+
+  -- as many numbers as the list has blocks
+  pub handed-count : length handed-over ≡ suc top
+  handed-count = ap length handed-is ∙ length-countdown (at ptr head top) top
+
+  -- the j-th of them is the block j indexes below the top
+  pub handed-at : (j : ℕ) → j ≤ top → getD handed-over j 0 ≡ at ptr head top (top - j)
+  handed-at j h = ap (λ (l : List ℕ). getD l j 0) handed-is ∙ getD-countdown (at ptr head top) top j h
+
+  -- each block of the list is handed over
+  pub handed-each : (i : ℕ) → i ≤ top → getD handed-over (top - i) 0 ≡ at ptr head top i
+  handed-each i h = let e : top - (top - i) ≡ i = omega arith in handed-at (top - i) (omega arith) ∙ ap (at ptr head top) e
+
+  -- and none twice
+  pub handed-once : (i j : ℕ) → i < length handed-over → j < length handed-over → getD handed-over i 0 ≡ getD handed-over j 0 → i ≡ j
+  handed-once i j h l e =
+      let c = handed-count in
+      let q = s .apart (top - i) (top - j) (omega arith) (omega arith) (sym (handed-at i (omega arith)) ∙ e ∙ handed-at j (omega arith)) in
+      omega arith
+
+  abbrev listed-by : ℕ → Bool
+  listed-by k = among k handed-over
+
+  turned : (k : ℕ) → listed-by k ≡ among k (countdown (at ptr head top) top)
+  turned k = ap (among k) handed-is
+
+  -- every block of the list is listed (01, "Listed means handed over by the visit")
+  pub listed : (i : ℕ) → i ≤ top → listed-by (at ptr head top i) ≡ true
+  listed i h = turned (at ptr head top i) ∙ among-countdown (at ptr head top) top i h
+
+  -- and what is listed is a block of the list
+  pub listed-index : (k : ℕ) → listed-by k ≡ true → (i : ℕ) × (i ≤ top) × (at ptr head top i ≡ k)
+  listed-index k h = countdown-among (at ptr head top) top k (sym (turned k) ∙ h)
+
+  -- what a growth asks of a new block
+  pub unlisted : (k : ℕ) → listed-by k ≡ false → (i : ℕ) → i ≤ top → at ptr head top i ≡ k → ⊥
+  unlisted k h i l e =
+      let q : true ≡ false = sym (listed i l) ∙ ap (λ (n : ℕ). listed-by n) e ∙ h in
+      let z : _≡_ {A = ℕ} 0 1 = cc in omega arith
