@@ -1,3 +1,4 @@
 -- The definitions that the contracts of `audit` cite.
 pub mod Bits
 pub mod Check
+pub mod Bounds

@@ -1,4 +1,16 @@
 // The list check: sound, or its first fault.
+mod bits;
+
+use layout::Geometry;
+ghost use mathlib.Core.Path.{_≡_};
+ghost use mathlib.Core.List.{[]};
+ghost use lib.ListN.{length};
+ghost use Rattle.hops.specs.Walk.{ctz};
+ghost use Rattle.card.specs.Blocks.{pointer};
+ghost use Rattle.card.specs.Card.{Card};
+ghost use Rattle.ctz.specs.Lists.{down};
+ghost use Rattle.audit.specs.Bounds.{Clean, Holding};
+ghost use Rattle.audit.specs.Check.{falls, names, further, checkOf};
 
 // What is wrong with a list, with its index and pointer number.
 pub enum Fault {
@@ -17,4 +29,129 @@ pub enum Checked {
     Unsound { fault: Fault },
     // -22.
     Refused,
+}
+
+// The walk by pointer 0 from index top, whose block should be head, down to index 0; the numbers met are kept in a map of bits.
+fn walk_down(b: u32, n: u32, image: &[u8], top: u32, head: u32) -> Checked
+    requires { ⌜ Card b n (length (now image)) ⌝ }
+    ensures { λ r. ⌜ r ≡ falls (pointer (now (image .entry)) b) n top head [] ⌝ }
+{
+    let mut met = [0u8; 8192];
+    let mut i = top;
+    let mut k = head;
+    loop {
+        if n <= k {
+            return Checked::Unsound {
+                fault: Fault::NotBelow {
+                    index: i,
+                    pointer: 0,
+                },
+            };
+        }
+        if bits::test(&met, k) {
+            return Checked::Unsound {
+                fault: Fault::MetBefore {
+                    index: i,
+                    pointer: 0,
+                },
+            };
+        }
+        bits::put(&mut met, k);
+        if i == 0 {
+            return Checked::Sound;
+        }
+        k = card::pointer(image, b, k, 0);
+        i -= 1;
+    }
+}
+
+// The number that lies d indexes below block k, by pointer 0.
+fn below_in(b: u32, n: u32, image: &[u8], k: u32, d: u32) -> u32
+    requires { ⌜ Clean (now image) b n d k ⌝ }
+    ensures { λ r. ⌜ r ≡ down (pointer (now (image .entry)) b) k d ⌝ }
+{
+    let mut at = k;
+    let mut i: u32 = 0;
+    while i < d {
+        at = card::pointer(image, b, at, 0);
+        i += 1;
+    }
+    at
+}
+
+// The further pointers of index i, whose block is k: pointer x names the block that lies 2 to the x indexes below.
+fn pointers_at(b: u32, n: u32, image: &[u8], i: u32, k: u32) -> Checked
+    requires { ⌜ Holding (now image) b n i k ⌝ }
+    ensures { λ r. ⌜ r ≡ names (pointer (now (image .entry)) b) (ctz i) i k 1 ⌝ }
+{
+    let zeros = u32::trailing_zeros(i);
+    let mut x: u32 = 1;
+    while x <= zeros {
+        let named = card::pointer(image, b, k, x);
+        let met = below_in(b, n, image, k, ctz::power(x));
+        if named != met {
+            return Checked::Unsound {
+                fault: Fault::Disagrees {
+                    index: i,
+                    pointer: x,
+                },
+            };
+        }
+        x += 1;
+    }
+    Checked::Sound
+}
+
+// The further pointers of each index from top, whose block is head, down to index 1.
+fn further_from(b: u32, n: u32, image: &[u8], top: u32, head: u32) -> Checked
+    requires { ⌜ Clean (now image) b n top head ⌝ }
+    ensures { λ r. ⌜ r ≡ further (pointer (now (image .entry)) b) top head ⌝ }
+{
+    let mut i = top;
+    let mut k = head;
+    while 0 < i {
+        let here = pointers_at(b, n, image, i, k);
+        match here {
+            Checked::Sound => {}
+            Checked::Unsound { fault: _ } => {
+                return here;
+            }
+            Checked::Refused => {
+                return here;
+            }
+        }
+        k = card::pointer(image, b, k, 0);
+        i -= 1;
+    }
+    Checked::Sound
+}
+
+// The list check: the pointer-0 walk from the top, and if that is clean the further pointers; -22 as 01 says.
+pub fn ctz_check(g: Geometry, image: &[u8], head: u32, size: u32) -> Checked
+    ensures { λ r. ⌜ r ≡ checkOf (g .«block_size») (g .«block_count») (now (image .entry)) head size ⌝ }
+{
+    if !card::good_card(g, image.len()) {
+        return Checked::Refused;
+    }
+    if Geometry::FILE_MAX < size {
+        return Checked::Refused;
+    }
+    if size == 0 {
+        if head == Geometry::NULL {
+            return Checked::Sound;
+        }
+        return Checked::Unsound {
+            fault: Fault::NotNull {
+                index: 0,
+                pointer: 0,
+            },
+        };
+    }
+    let top = layout::index_at(g.block_size, size - 1);
+    let walked = walk_down(g.block_size, g.block_count, image, top, head);
+    match walked {
+        Checked::Sound => further_from(g.block_size, g.block_count, image, top, head),
+        Checked::Unsound { fault: _ } => walked,
+        Checked::Refused => walked,
+    }
 }

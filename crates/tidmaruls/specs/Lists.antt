@@ -12,11 +12,16 @@ use Rattle.ctz.specs.declared.visit.Begun.{Begun}
 use Rattle.ctz.specs.declared.visit.Begun.the-variants as begun
 use Rattle.ctz.specs.declared.visit.Step.{Step}
 use Rattle.ctz.specs.declared.visit.Step.the-variants as step
+use Rattle.audit.specs.Check as check
+use Rattle.audit.specs.declared.Fault.{Fault}
+use Rattle.audit.specs.declared.Checked.{Checked}
+use Rattle.audit.specs.declared.Checked.the-variants as checked
 use Rattle.tidmaruls.specs.declared.lists.TidIndex.{TidIndex}
 use Rattle.tidmaruls.specs.declared.lists.TidFind.{TidFind}
 use Rattle.tidmaruls.specs.declared.lists.TidPlace.{TidPlace}
 use Rattle.tidmaruls.specs.declared.lists.TidVisit.{TidVisit}
 use Rattle.tidmaruls.specs.declared.lists.TidStep.{TidStep}
+use Rattle.tidmaruls.specs.declared.lists.TidCheck.{TidCheck}
 
 abbrev pub placeTold : Place → TidIndex
 placeTold p = record { code = place.codeOf p; index = place.indexOf p; offset = place.offsetOf p }
@@ -49,3 +54,9 @@ stepTold step.Damaged = record { code = visits.stepCode step.Damaged; block = 0;
 stepTold (step.Last k) = record { code = visits.stepCode (step.Last k); block = k; more = 0; place = nowhere }
 stepTold (step.More k v) = record { code = visits.stepCode (step.More k v); block = k; more = 1; place = nextTold v }
 stepTold step.Refused = record { code = visits.stepCode step.Refused; block = 0; more = 0; place = nowhere }
+
+abbrev pub checkedTold : Checked → TidCheck
+checkedTold c = record { code = check.codeOf c; kind = check.kindOf c; index = check.indexOf c; pointer = check.pointerOf c }
+
+abbrev pub faultTold : Fault → TidCheck
+faultTold f = checkedTold (checked.Unsound f)
