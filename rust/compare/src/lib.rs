@@ -7,6 +7,8 @@ pub mod grown;
 pub mod layout;
 #[cfg(feature = "lists")]
 pub mod model;
+#[cfg(feature = "store")]
+pub mod plain;
 mod random;
 
 pub use random::Random;

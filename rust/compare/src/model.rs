@@ -24,17 +24,22 @@ fn walk(geometry: Geometry, image: &[u8], head: u32, top: u32) -> Result<Vec<u32
     Ok(blocks)
 }
 
+/// The blocks of a list that is sound, index rising.
+pub fn blocks(geometry: Geometry, image: &[u8], head: u32, size: u32) -> Vec<u32> {
+    if size == 0 {
+        return Vec::new();
+    }
+    let top = layout::index(geometry.block_size, size - 1);
+    walk(geometry, image, head, top).expect("a sound list")
+}
+
 /// The first fault of a list on a valid card; None if it is sound.
 pub fn fault(geometry: Geometry, image: &[u8], head: u32, size: u32) -> Option<Fault> {
     if size == 0 {
         return (head != tidmaruls::NULL).then_some(Fault::Headed);
     }
-    let (block_size, last) = (geometry.block_size, size - 1);
-    let top = last / (block_size - 8);
-    let top = (0..=top)
-        .rev()
-        .find(|&index| layout::start(block_size, index) <= last as u64)
-        .expect("index 0 starts at 0");
+    let block_size = geometry.block_size;
+    let top = layout::index(block_size, size - 1);
     let blocks = match walk(geometry, image, head, top) {
         Ok(blocks) => blocks,
         Err(fault) => return Some(fault),

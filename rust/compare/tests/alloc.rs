@@ -218,9 +218,7 @@ mod with_oracle {
     #[test]
     fn large_cards() {
         let mut random = Random::new(32);
-        let mut allocations: u64 = (0..4)
-            .map(|_| on_random_cards(&mut random, 10_000, 65_536))
-            .sum();
+        let mut allocations = on_random_cards(&mut random, 10_000, 65_536);
         allocations += on_random_cards(&mut random, 65_536, 65_536);
         println!("alloc: {allocations} on cards of 10,000 to 65,536 blocks");
     }

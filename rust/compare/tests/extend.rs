@@ -119,7 +119,7 @@ mod with_oracle {
         fn fill(&mut self, file: usize, block: u32, offset: u32, random: &mut Random) {
             let geometry = self.card.geometry;
             let room = geometry.block_size - offset;
-            let whole = room == 0 || random.one_in(2);
+            let whole = random.one_in(2);
             let length = if whole { room } else { random.between(1, room) };
             let bytes = cards::noise(length as usize, geometry.block_count, random);
             let at = block as usize * geometry.block_size as usize + offset as usize;
