@@ -1,7 +1,7 @@
 //! Cards to compare on: lists laid out by hand or grown by the oracle, noise in the data, damage.
 
 use crate::{layout, Random};
-use tidmaruls::{Card, Geometry, Table, Window};
+use tidmaruls::{Card, Entry, Geometry, Table, Window};
 
 /// The block sizes that lists are compared at.
 pub const BLOCK_SIZES: [u32; 5] = [128, 132, 512, 4096, 65536];
@@ -22,6 +22,24 @@ impl List {
     pub fn head(&self) -> u32 {
         self.blocks.last().copied().unwrap_or(tidmaruls::NULL)
     }
+}
+
+/// The geometry of these numbers, valid or not.
+pub fn geometry(block_size: u32, block_count: u32) -> Geometry {
+    Geometry {
+        block_size,
+        block_count,
+    }
+}
+
+/// A table of these files, each a number, a size and a head.
+pub fn table(files: &[(u32, u32, u32)]) -> Table {
+    let mut table = Table::EMPTY;
+    for &(number, size, head) in files {
+        table.files[table.count as usize] = Entry { number, size, head };
+        table.count += 1;
+    }
+    table
 }
 
 /// An erased card of good blocks without files; its window is fresh and starts at `start`.

@@ -2,7 +2,7 @@
 
 use crate::{layout, model};
 use std::collections::BTreeMap;
-use tidmaruls::{Card, Refusal, FILE_MAX};
+use tidmaruls::{Card, Refusal, Window, FILE_MAX};
 
 /// The files by number.
 #[derive(Clone, Default)]
@@ -117,4 +117,11 @@ pub fn is_window(card: &Card) -> bool {
         && window.size <= count.min(8 * card.lookahead)
         && window.size - window.next <= window.ckpoint
         && window.ckpoint <= count
+}
+
+/// Whether the window moved on from this one by as many blocks as its count fell since the call's own checkpoint.
+pub fn passed_since(card: &Card, before: Window) -> bool {
+    let (after, count) = (&card.window, card.geometry.block_count);
+    let passed = count - after.ckpoint;
+    (before.start + before.next + passed) % count == (after.start + after.next) % count
 }

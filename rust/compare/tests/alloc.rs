@@ -1,74 +1,28 @@
 //! Allocation against the oracle: tables of random lists, allocations and checkpoints to the end.
 #![cfg(feature = "alloc")]
 
-use compare::cards;
-use tidmaruls::{fresh, Geometry};
-
-fn geometry(block_count: u32) -> Geometry {
-    Geometry {
-        block_size: 128,
-        block_count,
-    }
-}
+use compare::cards::{blank, geometry, table};
 
 /// The rules' own values: ten free blocks and then -28; blocks 0, 1 and 4 listed.
 #[test]
 fn worked_values() {
-    let mut card = cards::blank(geometry(10), 8, 0);
+    let mut card = blank(geometry(128, 10), 8, 0);
     for block in 0..10 {
         assert_eq!(card.alloc(), Ok(block));
     }
     assert_eq!(card.alloc(), Err(-28));
-    let mut card = cards::blank(geometry(10), 8, 0);
-    for (number, head) in [(0, 0), (1, 1), (2, 4)] {
-        card.table.files[number] = tidmaruls::Entry {
-            number: number as u32,
-            size: 1,
-            head,
-        };
-    }
-    card.table.count = 3;
+    let mut card = blank(geometry(128, 10), 8, 0);
+    card.table = table(&[(0, 1, 0), (1, 1, 1), (2, 1, 4)]);
     assert_eq!((card.alloc(), card.alloc()), (Ok(2), Ok(3)));
     assert_eq!((card.window.next, card.window.ckpoint), (5, 5));
 }
 
-/// Windows and lookaheads that are none; the window comes back as it was.
-#[test]
-fn refusals() {
-    for lookahead in [0, 4, 7, 9, 65, 72, u32::MAX] {
-        assert_eq!(fresh(geometry(10), lookahead, 0), Err(-22));
-    }
-    assert_eq!(fresh(geometry(10), 8, 10), Err(-22));
-    assert_eq!(fresh(geometry(0), 8, 0), Err(-22));
-    let blank = cards::blank(geometry(100), 8, 0);
-    for (start, next, size, ckpoint) in [
-        (100, 0, 0, 100),
-        (0, 1, 0, 100),
-        (0, 0, 65, 100),
-        (0, 0, 0, 101),
-        (0, 10, 20, 9),
-        (0, u32::MAX, u32::MAX, 100),
-    ] {
-        let mut card = blank.clone();
-        card.window.start = start;
-        card.window.next = next;
-        card.window.size = size;
-        card.window.ckpoint = ckpoint;
-        let before = card.window;
-        assert_eq!(card.alloc(), Err(-22));
-        assert_eq!(card.ckpoint(), Err(-22));
-        assert_eq!(card.drop_window(), Err(-22));
-        assert_eq!(card.window, before);
-    }
-}
-
 #[cfg(oracle)]
 mod with_oracle {
-    use super::geometry;
-    use compare::cards::{self, List};
+    use compare::cards::{self, geometry, List};
     use compare::{grown, Random};
     use oracle::Oracle;
-    use tidmaruls::{fresh, Card, Entry, Table};
+    use tidmaruls::{fresh, Card};
 
     /// The same card on both sides, and lists on it to make tables of.
     struct Bench {
@@ -81,7 +35,7 @@ mod with_oracle {
     impl Bench {
         /// Up to 32 random lists over a random share of the blocks.
         fn new(block_count: u32, lookahead: u32, start: u32, random: &mut Random) -> Bench {
-            let geometry = geometry(block_count);
+            let geometry = geometry(128, block_count);
             let mut card = cards::blank(geometry, lookahead, start);
             let made = fresh(geometry, lookahead, start).expect("a valid start");
             assert_eq!(made, card.window);
@@ -108,24 +62,17 @@ mod with_oracle {
 
         /// A table of some of the lists, with empty files among them.
         fn choose_table(&mut self, random: &mut Random) {
-            let mut table = Table::EMPTY;
-            self.oracle.files.clear();
+            let mut files = Vec::new();
             for (number, list) in self.lists.iter().enumerate() {
                 if random.one_in(5) {
                     continue;
                 }
                 let none = List::EMPTY;
                 let list = if random.one_in(10) { &none } else { list };
-                let entry = Entry {
-                    number: number as u32 * 3,
-                    size: list.size,
-                    head: list.head(),
-                };
-                table.files[table.count as usize] = entry;
-                table.count += 1;
-                self.oracle.files.push((entry.head, entry.size));
+                files.push((number as u32 * 3, list.size, list.head()));
             }
-            self.card.table = table;
+            self.card.table = cards::table(&files);
+            self.oracle.files = files.iter().map(|file| (file.2, file.1)).collect();
         }
 
         fn agree(&self, what: &str) {

@@ -1,52 +1,12 @@
 //! One growth against the oracle: block, offset, window and the whole image, on good cards and with refused erases.
 #![cfg(feature = "extend")]
 
-use compare::cards;
-use tidmaruls::Geometry;
-
-/// What is refused before the card is looked at; all is as it came.
-#[test]
-fn refusals() {
-    let geometry = Geometry {
-        block_size: 128,
-        block_count: 4,
-    };
-    let mut card = cards::blank(geometry, 8, 0);
-    let whole = card.clone();
-    assert_eq!(card.extend(0, tidmaruls::FILE_MAX + 1), Err(-22));
-    assert_eq!(card, whole);
-    for health in [vec![0; 3], vec![0; 5], vec![0, 3, 0, 0]] {
-        card.health = health;
-        let before = card.clone();
-        assert_eq!(card.extend(tidmaruls::NULL, 0), Err(-22));
-        assert_eq!(card, before);
-    }
-}
-
-/// The head is tested after the erase: the block is taken and erased, and nothing is programmed.
-#[test]
-fn damaged_head() {
-    let geometry = Geometry {
-        block_size: 128,
-        block_count: 4,
-    };
-    for size in [1, 100, 128, 252] {
-        let mut card = cards::blank(geometry, 8, 2);
-        card.image.fill(0x55);
-        let mut wanted = card.image.clone();
-        wanted[256..384].fill(0xFF);
-        assert_eq!(card.extend(4, size), Err(-84));
-        assert_eq!(card.image, wanted);
-        assert_eq!((card.window.next, card.window.ckpoint), (1, 3));
-    }
-}
-
 #[cfg(oracle)]
 mod with_oracle {
     use compare::cards::{self, BLOCK_SIZES};
     use compare::{grown, Random};
     use oracle::Oracle;
-    use tidmaruls::{Card, Entry, Geometry, Table};
+    use tidmaruls::{Card, Geometry};
 
     /// The same card on both sides, and the files that both list.
     struct Bench {
@@ -80,16 +40,11 @@ mod with_oracle {
         }
 
         fn list_files(&mut self) {
-            let mut table = Table::EMPTY;
-            for (number, &(head, size)) in self.files.iter().enumerate() {
-                table.files[number] = Entry {
-                    number: number as u32,
-                    size,
-                    head,
-                };
-            }
-            table.count = self.files.len() as u32;
-            self.card.table = table;
+            let numbered = self.files.iter().zip(0..);
+            let files: Vec<(u32, u32, u32)> = numbered
+                .map(|(&(head, size), number)| (number, size, head))
+                .collect();
+            self.card.table = cards::table(&files);
             self.oracle.files.clone_from(&self.files);
         }
 
@@ -155,10 +110,7 @@ mod with_oracle {
             let block_size = random.pick(&BLOCK_SIZES);
             let high = (most / block_size).clamp(1, 2000);
             let low = if random.one_in(4) { 1 } else { high.min(10) };
-            let geometry = Geometry {
-                block_size,
-                block_count: random.between(low, high),
-            };
+            let geometry = cards::geometry(block_size, random.between(low, high));
             Bench::new(geometry, random).run(calls, random);
         }
         cards * calls

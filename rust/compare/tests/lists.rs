@@ -1,60 +1,9 @@
 //! Lookup, visit and list check, on lists grown by the oracle and on damaged copies of them.
 #![cfg(feature = "lists")]
 
-use tidmaruls::{check, find, visit, Fault, Geometry};
-
-/// What is refused before the card is looked at.
-#[test]
-fn refusals() {
-    let geometry = Geometry {
-        block_size: 128,
-        block_count: 4,
-    };
-    let image = vec![0xFF; 512];
-    let found = |size, position| find(geometry, &image, 0, size, position);
-    assert_eq!(found(10, 10), Err(-22));
-    assert_eq!(found(10, u32::MAX), Err(-22));
-    assert_eq!(found(tidmaruls::FILE_MAX + 1, 0), Err(-22));
-    let empty = found(0, 77).expect("an empty list answers at every position");
-    assert_eq!(
-        (empty.block, empty.offset, empty.hops),
-        (tidmaruls::NULL, 0, 0)
-    );
-    assert_eq!(check(geometry, &image, tidmaruls::NULL, 0), Ok(None));
-    assert_eq!(check(geometry, &image, 0, 0), Ok(Some(Fault::Headed)));
-    assert_eq!(
-        check(geometry, &image, 0, tidmaruls::FILE_MAX + 1),
-        Err(-22)
-    );
-    assert_eq!(
-        check(geometry, &image, 4, 1),
-        Ok(Some(Fault::Beyond { index: 0 }))
-    );
-    assert_eq!(find(geometry, &image, 4, 1, 0), Err(-84));
-    assert_eq!(visit(geometry, &image, 4, 1), (-84, vec![]));
-    for (block_size, block_count, length) in [
-        (127, 4, 508),
-        (65537, 1, 65537),
-        (128, 0, 0),
-        (128, 65537, 8_388_736),
-        (4096, 4097, 16_781_312),
-        (128, 4, 511),
-        (128, 4, 513),
-    ] {
-        let geometry = Geometry {
-            block_size,
-            block_count,
-        };
-        let image = vec![0xFF; length];
-        assert_eq!(find(geometry, &image, 0, 1, 0), Err(-22));
-        assert_eq!(check(geometry, &image, 0, 1), Err(-22));
-        assert_eq!(visit(geometry, &image, 0, 1), (-22, vec![]));
-    }
-}
-
 #[cfg(oracle)]
 mod with_oracle {
-    use compare::cards::{damage, List};
+    use compare::cards::{damage, geometry, List};
     use compare::{grown, layout, model, Random};
     use oracle::Oracle;
     use tidmaruls::{check, find, visit, Found, Geometry};
@@ -69,12 +18,8 @@ mod with_oracle {
 
     impl Bench {
         fn new(block_size: u32, block_count: u32) -> Bench {
-            let geometry = Geometry {
-                block_size,
-                block_count,
-            };
             Bench {
-                geometry,
+                geometry: geometry(block_size, block_count),
                 oracle: Oracle::new(block_size, block_count, 64, 0),
                 lookups: 0,
                 untested: 0,

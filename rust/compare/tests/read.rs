@@ -1,46 +1,12 @@
 //! Read and stretch against the oracle's own read.
 #![cfg(feature = "read")]
 
-use compare::cards;
-use tidmaruls::{Entry, Geometry};
-
-/// Positions, numbers and heads that are refused; the buffer keeps its bytes.
-#[test]
-fn refusals() {
-    let geometry = Geometry {
-        block_size: 128,
-        block_count: 4,
-    };
-    let mut card = cards::blank(geometry, 8, 0);
-    card.table.files[0] = Entry {
-        number: 5,
-        size: 200,
-        head: 4,
-    };
-    card.table.count = 1;
-    let mut buffer = [7; 10];
-    for (number, position, code) in [
-        (65536, 0, -22),
-        (6, 0, -2),
-        (5, tidmaruls::FILE_MAX + 1, -22),
-        (5, 0, -84),
-    ] {
-        assert_eq!(card.read(number, position, &mut buffer), Err(code));
-        assert_eq!(card.stretch(number, position), Err(code));
-    }
-    for position in [200, 201, tidmaruls::FILE_MAX] {
-        assert_eq!(card.read(5, position, &mut buffer), Ok(0));
-        assert_eq!(card.stretch(5, position), Ok(&[][..]));
-    }
-    assert_eq!(buffer, [7; 10]);
-}
-
 #[cfg(oracle)]
 mod with_oracle {
     use compare::cards::{self, BLOCK_SIZES};
     use compare::{grown, Random};
     use oracle::{File, Oracle};
-    use tidmaruls::{Card, Entry, Geometry};
+    use tidmaruls::Card;
 
     /// A card with one list grown by the oracle, as file 9.
     fn grown_card(block_size: u32, random: &mut Random) -> (Card, Oracle) {
@@ -49,18 +15,9 @@ mod with_oracle {
         let block_count = (blocks + random.between(2, 60)).min(16_777_216 / block_size);
         let mut oracle = Oracle::new(block_size, block_count, 64, 0);
         let list = grown::grow(&mut oracle, size, random);
-        let geometry = Geometry {
-            block_size,
-            block_count,
-        };
-        let mut card = cards::blank(geometry, 8, 0);
+        let mut card = cards::blank(cards::geometry(block_size, block_count), 8, 0);
         card.image.copy_from_slice(&oracle.device.image);
-        card.table.files[0] = Entry {
-            number: 9,
-            size,
-            head: list.head(),
-        };
-        card.table.count = 1;
+        card.table = cards::table(&[(9, size, list.head())]);
         (card, oracle)
     }
 

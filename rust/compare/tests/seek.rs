@@ -1,38 +1,9 @@
 //! Seek against the oracle: every whence, from held positions up to the largest size.
 #![cfg(feature = "seek")]
 
-use tidmaruls::{Entry, Table, FILE_MAX};
-
-/// A table of one file, number 7, of this size.
-fn table(size: u32) -> Table {
-    let mut table = Table::EMPTY;
-    let head = if size == 0 { tidmaruls::NULL } else { 3 };
-    table.files[0] = Entry {
-        number: 7,
-        size,
-        head,
-    };
-    table.count = 1;
-    table
-}
-
-/// File number, then held position, then the sum.
-#[test]
-fn refusals() {
-    let table = table(100);
-    assert_eq!(table.seek(65536, FILE_MAX + 1, -1, 0), Err(-22));
-    assert_eq!(table.seek(8, FILE_MAX + 1, -1, 0), Err(-2));
-    for whence in [0, 1, 2, 3, -1] {
-        assert_eq!(table.seek(7, FILE_MAX + 1, 0, whence), Err(-22));
-        assert_eq!(table.seek(7, u32::MAX, 0, whence), Err(-22));
-    }
-    assert_eq!(table.seek(7, 10, 3, 7), Ok(10));
-}
-
 #[cfg(oracle)]
 mod with_oracle {
-    use super::table;
-    use compare::Random;
+    use compare::{cards, Random};
     use oracle::Oracle;
     use tidmaruls::FILE_MAX;
 
@@ -53,7 +24,9 @@ mod with_oracle {
     ];
 
     fn compare(oracle: &mut Oracle, size: u32, position: u32, offset: i32, whence: i32) {
-        let ours = table(size).seek(7, position, offset, whence);
+        let head = if size == 0 { tidmaruls::NULL } else { 3 };
+        let table = cards::table(&[(7, size, head)]);
+        let ours = table.seek(7, position, offset, whence);
         let theirs = oracle.seek(size, position, offset, whence);
         let wanted = u32::try_from(theirs).map_err(|_| theirs);
         assert_eq!(

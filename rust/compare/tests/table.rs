@@ -1,21 +1,13 @@
 //! The calls that see the table only, against plain files and against the saved form's own rules.
 #![cfg(feature = "table")]
 
+use compare::cards::table;
 use compare::Random;
 use std::collections::BTreeMap;
-use tidmaruls::{Entry, Table};
+use tidmaruls::Table;
 
 /// The rules' own bytes.
 const SAVED: [u8; 8] = [0x02, 0x03, 0xAC, 0x02, 0x07, 0xC8, 0x01, 0x00];
-
-fn table(entries: &[(u32, u32, u32)]) -> Table {
-    let mut table = Table::EMPTY;
-    for &(number, size, head) in entries {
-        table.files[table.count as usize] = Entry { number, size, head };
-        table.count += 1;
-    }
-    table
-}
 
 #[test]
 fn worked_bytes() {
@@ -78,20 +70,21 @@ fn refused_tables() {
 }
 
 fn random_table(random: &mut Random) -> Table {
-    let mut held = Table::EMPTY;
     let mut number = 0;
-    for place in 0..random.between(0, 32) {
-        number += 1 + (random.below(2000) >> random.below(11));
-        let size = random.number() >> random.between(1, 32).min(31);
-        let head = if size == 0 {
-            tidmaruls::NULL
-        } else {
-            random.below(65_536)
-        };
-        held.files[place as usize] = Entry { number, size, head };
-        held.count = place + 1;
-    }
-    held
+    let files: Vec<(u32, u32, u32)> = (0..random.between(0, 32))
+        .map(|_| {
+            number += 1 + (random.below(2000) >> random.below(11));
+            let size = random.number() >> random.between(1, 31);
+            let empty = size == 0 || random.one_in(8);
+            let head = random.below(65_536);
+            if empty {
+                (number, 0, tidmaruls::NULL)
+            } else {
+                (number, size, head)
+            }
+        })
+        .collect();
+    table(&files)
 }
 
 /// Load undoes save; of any other bytes it refuses, or save gives them back.

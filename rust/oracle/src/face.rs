@@ -4,54 +4,13 @@ use crate::bd::LfsCache;
 use crate::block_alloc::alloc::{lfs_alloc, lfs_alloc_ckpoint, lfs_alloc_drop};
 use crate::file::ctz::{lfs_ctz_extend, lfs_ctz_find, lfs_ctz_index, lfs_ctz_traverse};
 use crate::file::ops::{lfs_file_flush, lfs_file_flushedread, lfs_file_seek_, lfs_file_write_};
-use crate::file::{LfsCtz, LfsFile};
 use crate::fs::{Lfs, LfsLookahead};
 use crate::lfs_config::LfsConfig;
 use crate::shims::device::Device;
 use crate::types::LFS_FILE_MAX;
+use crate::values::{File, Found, Window};
 use core::ffi::c_void;
 use core::ptr::null;
-
-/// The lookahead window. The Rust's map has as many bytes as the lookahead; the rest here stays as it was set.
-#[derive(Clone, Copy, PartialEq, Eq, Debug)]
-pub struct Window {
-    pub map: [u8; 64],
-    pub start: u32,
-    pub next: u32,
-    pub size: u32,
-    pub ckpoint: u32,
-}
-
-/// Where a lookup led, and how many pointers it read on the way.
-#[derive(Clone, Copy, PartialEq, Eq, Debug)]
-pub struct Found {
-    pub block: u32,
-    pub offset: u32,
-    pub hops: u32,
-}
-
-/// An open file of the Rust, outside any directory; it keeps its block between calls.
-pub struct File(LfsFile);
-
-impl File {
-    /// A file with this list, at this position, open for reading and writing.
-    pub fn open(head: u32, size: u32, position: u32) -> File {
-        // Numbers and null pointers: all zero is a value of each field.
-        let mut file: LfsFile = unsafe { core::mem::zeroed() };
-        file.ctz = LfsCtz { head, size };
-        file.pos = position;
-        file.flags = 3;
-        File(file)
-    }
-
-    pub fn head(&self) -> u32 {
-        self.0.ctz.head
-    }
-
-    pub fn size(&self) -> u32 {
-        self.0.ctz.size
-    }
-}
 
 /// The Rust with all that it works on.
 pub struct Oracle {

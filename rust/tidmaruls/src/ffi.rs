@@ -228,14 +228,14 @@ extern "C" {
 /// A file's size.
 #[repr(C)]
 #[derive(Clone, Copy, PartialEq, Eq, Debug)]
-pub struct Sized {
+pub struct FileSize {
     pub code: i32,
     pub size: u32,
 }
 
 extern "C" {
     /// The size of a file.
-    pub fn tid_size(table: Table, number: u32) -> Sized;
+    pub fn tid_size(table: Table, number: u32) -> FileSize;
 }
 
 // ---- tid_seek

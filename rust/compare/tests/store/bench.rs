@@ -1,27 +1,25 @@
-//! Random calls on whole cards with faults, against files as plain bytes: every file after every call.
-#![cfg(feature = "store")]
+//! Random calls on one card, each held against the plain files.
 
-use compare::cards::{self, BLOCK_SIZES};
-use compare::plain::{good_unlisted, is_fresh, is_window, Plain};
+use compare::plain::{good_unlisted, is_fresh, is_window, passed_since, Plain};
 use compare::Random;
-use tidmaruls::{check, fresh, Card, Geometry, Refusal, Table, FILE_MAX};
+use tidmaruls::{check, fresh, Card, Refusal, Table, FILE_MAX};
 
 /// How the calls went.
 #[derive(Default, Debug)]
-struct Tally {
-    calls: u64,
-    done: u64,
-    refused: u64,
-    full_fresh: u64,
-    full_held: u64,
+pub struct Tally {
+    pub calls: u64,
+    pub done: u64,
+    pub refused: u64,
+    pub full_fresh: u64,
+    pub full_held: u64,
 }
 
 /// A card, and the files that it should hold.
-struct Bench<'a> {
-    card: Card,
-    plain: Plain,
-    random: &'a mut Random,
-    tally: &'a mut Tally,
+pub struct Bench<'a> {
+    pub card: Card,
+    pub plain: Plain,
+    pub random: &'a mut Random,
+    pub tally: &'a mut Tally,
 }
 
 impl Bench<'_> {
@@ -53,12 +51,15 @@ impl Bench<'_> {
             Ok(blocks) if blocks > 0 => None,
             _ => Some((self.card.image.clone(), self.card.window)),
         };
-        let table = self.card.table;
+        let (table, window) = (self.card.table, self.card.window);
         let (fresh, free) = (is_fresh(&self.card), good_unlisted(&self.card));
         let answer = call(&mut self.card);
         if let Some((image, window)) = untouched {
             assert!(self.card.image == image && self.card.window == window);
             assert_eq!(answer, needs.map(|_| ()));
+        }
+        if needs.is_ok_and(|blocks| blocks > 0) {
+            assert!(passed_since(&self.card, window), "{window:?}");
         }
         self.tally.done += answer.is_ok() as u64;
         self.tally.refused += answer.is_err() as u64;
@@ -89,12 +90,12 @@ impl Bench<'_> {
     /// Mostly in or near a file of this size.
     fn position(&mut self, size: u32) -> u32 {
         let block_size = self.card.geometry.block_size;
-        match self.random.below(20) {
+        match self.random.below(40) {
             0 => self.random.between(FILE_MAX - 2 * block_size, FILE_MAX),
             1 => self.random.number(),
             2 => FILE_MAX + self.random.below(2),
-            3..=6 => size,
-            7..=9 => size + self.random.below(3 * block_size),
+            3..=12 => size,
+            13..=16 => size + self.random.below(3 * block_size),
             _ => self.random.between(0, size),
         }
     }
@@ -103,11 +104,11 @@ impl Bench<'_> {
     fn length(&mut self) -> u32 {
         let whole = self.card.image.len() as u32;
         let block_size = self.card.geometry.block_size;
-        match self.random.below(10) {
+        match self.random.below(20) {
             0 => 0,
-            1..=3 => self.random.below(20),
-            4..=6 => self.random.below(2 * block_size),
-            7..=8 => self.random.below(8 * block_size),
+            1..=8 => self.random.below(20),
+            9..=15 => self.random.below(2 * block_size),
+            16..=18 => self.random.below(8 * block_size),
             _ => self.random.below(whole + 1),
         }
     }
@@ -171,7 +172,7 @@ impl Bench<'_> {
             let number = self.number();
             (self.card.table.remove(number), self.plain.remove(number))
         } else {
-            let number = self.random.below(40);
+            let number = self.random.below(40) * self.random.pick(&[1, 1, 1, 1700]);
             (self.card.table.create(number), self.plain.create(number))
         };
         assert_eq!(ours, wanted);
@@ -196,9 +197,11 @@ impl Bench<'_> {
         }
     }
 
-    fn run(mut self, calls: u32) {
+    /// So many calls, all files looked at after each.
+    pub fn run(mut self, calls: u32) {
         for _ in 0..calls {
             match self.random.below(20) {
+                _ if self.plain.files.is_empty() => self.name(),
                 0..=2 => self.name(),
                 3..=5 => self.read(),
                 6..=8 => self.truncate(),
@@ -209,57 +212,4 @@ impl Bench<'_> {
             self.agree();
         }
     }
-}
-
-/// A card with noise on it, some blocks faulty, and a fresh window.
-fn card(geometry: Geometry, random: &mut Random) -> Card {
-    let lookahead = cards::lookahead(random);
-    let mut card = cards::blank(geometry, lookahead, random.below(geometry.block_count));
-    card.image = cards::noise(card.image.len(), geometry.block_count, random);
-    if !random.one_in(3) {
-        let share = random.between(2, 30);
-        for health in &mut card.health {
-            *health = random.below(3) as u8 * random.one_in(share) as u8;
-        }
-    }
-    card
-}
-
-/// Calls on cards of this many blocks and at most this many bytes.
-fn on_cards(seed: u64, cards: u32, calls: u32, blocks: (u32, u32), most: u32) -> Tally {
-    let mut random = Random::new(seed);
-    let mut tally = Tally::default();
-    for _ in 0..cards {
-        let block_size = random.pick(&BLOCK_SIZES);
-        let high = blocks.1.min((most / block_size).max(1));
-        let geometry = Geometry {
-            block_size,
-            block_count: random.between(blocks.0.min(high), high),
-        };
-        let bench = Bench {
-            card: card(geometry, &mut random),
-            plain: Plain::default(),
-            random: &mut random,
-            tally: &mut tally,
-        };
-        bench.run(calls);
-    }
-    println!("store: cards of {blocks:?} blocks, at most {most} bytes: {tally:?}");
-    tally
-}
-
-#[test]
-fn small_cards() {
-    let tally = on_cards(70, 600, 80, (1, 12), 1_000_000);
-    assert!(tally.full_fresh > 0 && tally.full_held > 0);
-}
-
-#[test]
-fn middling_cards() {
-    on_cards(71, 100, 150, (13, 200), 100_000);
-}
-
-#[test]
-fn large_cards() {
-    on_cards(72, 15, 60, (100, 2000), 16_777_216);
 }
