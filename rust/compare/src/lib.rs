@@ -5,7 +5,7 @@ pub mod fixed;
 #[cfg(oracle)]
 pub mod grown;
 pub mod layout;
-#[cfg(feature = "lists")]
+#[cfg(feature = "check")]
 pub mod model;
 #[cfg(feature = "store")]
 pub mod plain;

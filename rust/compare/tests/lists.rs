@@ -4,9 +4,9 @@
 #[cfg(oracle)]
 mod with_oracle {
     use compare::cards::{damage, geometry, List};
-    use compare::{grown, layout, model, Random};
+    use compare::{grown, layout, Random};
     use oracle::Oracle;
-    use tidmaruls::{check, find, visit, Found, Geometry};
+    use tidmaruls::{find, visit, Found, Geometry};
 
     /// A card of the oracle's, and how much was compared on it.
     struct Bench {
@@ -64,12 +64,19 @@ mod with_oracle {
             assert_eq!(ours, (wanted, blocks), "{:?}, {list:?}", self.geometry);
         }
 
+        /// The list check as the plain one; answers whether the list is sound.
+        #[cfg(feature = "check")]
         fn check(&mut self, list: &List) -> bool {
             let image = &self.oracle.device.image;
-            let wanted = model::fault(self.geometry, image, list.head(), list.size);
-            let ours = check(self.geometry, image, list.head(), list.size);
+            let wanted = compare::model::fault(self.geometry, image, list.head(), list.size);
+            let ours = tidmaruls::check(self.geometry, image, list.head(), list.size);
             assert_eq!(ours, Ok(wanted), "{:?}, {list:?}", self.geometry);
             wanted.is_none()
+        }
+
+        #[cfg(not(feature = "check"))]
+        fn check(&mut self, _: &List) -> bool {
+            true
         }
 
         /// A sound list: every position if it is small, else the borders of its blocks and random ones.

@@ -3,10 +3,21 @@
 #[cfg(feature = "lists")]
 mod lists {
     use compare::cards::geometry;
-    use tidmaruls::{check, find, visit, Fault, Found, FILE_MAX, NULL};
+    use tidmaruls::{find, visit, Found, FILE_MAX, NULL};
+
+    /// Geometries and image lengths that are no card.
+    pub const CARDS: [(u32, u32, usize); 7] = [
+        (127, 4, 508),
+        (65537, 1, 65537),
+        (128, 0, 0),
+        (128, 65537, 8_388_736),
+        (4096, 4097, 16_781_312),
+        (128, 4, 511),
+        (128, 4, 513),
+    ];
 
     #[test]
-    fn positions_and_sizes() {
+    fn lookups() {
         let (card, image) = (geometry(128, 4), vec![0xFF; 512]);
         let found = |size, position| find(card, &image, 0, size, position);
         assert_eq!(found(10, 10), Err(-22));
@@ -18,36 +29,40 @@ mod lists {
             hops: 0,
         };
         assert_eq!(found(0, 77), Ok(nothing));
-        assert_eq!(check(card, &image, 0, FILE_MAX + 1), Err(-22));
-        assert_eq!(check(card, &image, NULL, 0), Ok(None));
-        assert_eq!(check(card, &image, 0, 0), Ok(Some(Fault::Headed)));
-    }
-
-    #[test]
-    fn heads() {
-        let (card, image) = (geometry(128, 4), vec![0xFF; 512]);
-        let fault = Fault::Beyond { index: 0 };
-        assert_eq!(check(card, &image, 4, 1), Ok(Some(fault)));
         assert_eq!(find(card, &image, 4, 1, 0), Err(-84));
-        assert_eq!(visit(card, &image, 4, 1), (-84, vec![]));
-    }
-
-    #[test]
-    fn cards() {
-        for (block_size, block_count, length) in [
-            (127, 4, 508),
-            (65537, 1, 65537),
-            (128, 0, 0),
-            (128, 65537, 8_388_736),
-            (4096, 4097, 16_781_312),
-            (128, 4, 511),
-            (128, 4, 513),
-        ] {
+        for (block_size, block_count, length) in CARDS {
             let (card, image) = (geometry(block_size, block_count), vec![0xFF; length]);
             assert_eq!(find(card, &image, 0, 1, 0), Err(-22));
-            assert_eq!(check(card, &image, 0, 1), Err(-22));
+        }
+    }
+
+    #[test]
+    fn visits() {
+        let (card, image) = (geometry(128, 4), vec![0xFF; 512]);
+        assert_eq!(visit(card, &image, 0, 0), (0, vec![]));
+        assert_eq!(visit(card, &image, 0, FILE_MAX + 1), (-22, vec![]));
+        assert_eq!(visit(card, &image, 4, 1), (-84, vec![]));
+        for (block_size, block_count, length) in CARDS {
+            let (card, image) = (geometry(block_size, block_count), vec![0xFF; length]);
             assert_eq!(visit(card, &image, 0, 1), (-22, vec![]));
         }
+    }
+}
+
+#[cfg(feature = "check")]
+#[test]
+fn checks() {
+    use compare::cards::geometry;
+    use tidmaruls::{check, Fault, FILE_MAX, NULL};
+    let (card, image) = (geometry(128, 4), vec![0xFF; 512]);
+    assert_eq!(check(card, &image, 0, FILE_MAX + 1), Err(-22));
+    assert_eq!(check(card, &image, NULL, 0), Ok(None));
+    assert_eq!(check(card, &image, 0, 0), Ok(Some(Fault::Headed)));
+    let fault = Fault::Beyond { index: 0 };
+    assert_eq!(check(card, &image, 4, 1), Ok(Some(fault)));
+    for (block_size, block_count, length) in lists::CARDS {
+        let (card, image) = (geometry(block_size, block_count), vec![0xFF; length]);
+        assert_eq!(check(card, &image, 0, 1), Err(-22));
     }
 }
 

@@ -81,36 +81,47 @@ extern "C" {
     ) -> Found;
 }
 
-// ---- tid_visit
+// ---- tid_visit, tid_traverse
 
-/// A visit's place: the index to hand over next, its block, and the block below it where that was read already.
+/// A visit's place: the index to hand over next, its block, and the block below it where that is held (`held` not 0).
 #[repr(C)]
 #[derive(Clone, Copy, PartialEq, Eq, Debug)]
-pub struct Step {
+pub struct Visit {
     pub index: u32,
     pub block: u32,
-    pub held: bool,
+    pub held: u32,
     pub after: u32,
 }
 
-/// The block handed over, whether indexes are left, and the place to go on from.
+/// How a visit begins: `more` is 1 where the list has blocks.
 #[repr(C)]
 #[derive(Clone, Copy, PartialEq, Eq, Debug)]
-pub struct Visited {
+pub struct Begun {
+    pub code: i32,
+    pub more: u32,
+    pub place: Visit,
+}
+
+/// The block handed over; `more` is 1 where indexes are left.
+#[repr(C)]
+#[derive(Clone, Copy, PartialEq, Eq, Debug)]
+pub struct Step {
     pub code: i32,
     pub block: u32,
-    pub more: bool,
-    pub next: Step,
+    pub more: u32,
+    pub place: Visit,
 }
 
 extern "C" {
-    /// One step of the visit of a list, which begins at the index of its last byte and its head.
-    pub fn tid_visit(
+    /// The visit of a list, at its last index.
+    pub fn tid_visit(geometry: Geometry, head: u32, size: u32) -> Begun;
+    /// One step of a visit.
+    pub fn tid_traverse(
         geometry: Geometry,
         image: *const u8,
         image_length: usize,
-        step: Step,
-    ) -> Visited;
+        place: Visit,
+    ) -> Step;
 }
 
 // ---- tid_check

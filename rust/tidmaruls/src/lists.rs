@@ -34,30 +34,20 @@ pub fn find(
 #[cfg(feature = "visit")]
 pub fn visit(geometry: Geometry, image: &[u8], head: u32, size: u32) -> (Refusal, Vec<u32>) {
     let mut blocks = Vec::new();
-    if size == 0 {
-        return (0, blocks);
+    let begun = unsafe { ffi::tid_visit(geometry, head, size) };
+    let (mut more, mut place) = (begun.more, begun.place);
+    if begun.code != 0 {
+        return (begun.code, blocks);
     }
-    let last = unsafe { ffi::tid_index(geometry.block_size, size - 1) };
-    if last.code != 0 {
-        return (last.code, blocks);
-    }
-    let mut step = ffi::Step {
-        index: last.index,
-        block: head,
-        held: false,
-        after: 0,
-    };
-    loop {
-        let told = unsafe { ffi::tid_visit(geometry, image.as_ptr(), image.len(), step) };
-        if told.code != 0 {
-            return (told.code, blocks);
+    while more != 0 {
+        let step = unsafe { ffi::tid_traverse(geometry, image.as_ptr(), image.len(), place) };
+        if step.code != 0 {
+            return (step.code, blocks);
         }
-        blocks.push(told.block);
-        if !told.more {
-            return (0, blocks);
-        }
-        step = told.next;
+        blocks.push(step.block);
+        (more, place) = (step.more, step.place);
     }
+    (0, blocks)
 }
 
 /// The first fault of a list: its kind, with index and pointer number.
