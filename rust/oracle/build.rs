@@ -35,7 +35,11 @@ fn folder() -> PathBuf {
         return PathBuf::from(named);
     }
     let manifest = PathBuf::from(env::var_os("CARGO_MANIFEST_DIR").expect("set by cargo"));
-    manifest.join("../../../shared/docs/src")
+    let beside = manifest
+        .ancestors()
+        .nth(3)
+        .expect("rust/oracle of a folder");
+    beside.join("shared/docs/src")
 }
 
 /// Every file that the modules are read from.
@@ -77,8 +81,7 @@ fn modules(src: &Path) -> String {
 fn main() {
     println!("cargo::rerun-if-env-changed=TIDMARULS_ORACLE");
     let folder = folder();
-    let shown = folder.canonicalize().unwrap_or(folder.clone());
-    let src = shown.join("littlefs-rust-core").join("src");
+    let src = folder.join("littlefs-rust-core").join("src");
     let files = sources(&src);
     let available = files.iter().all(|file| file.is_file());
     for file in &files {
@@ -90,7 +93,7 @@ fn main() {
     }
     let about = format!(
         "/// Whether the Rust was there when this was built.\npub const AVAILABLE: bool = {available};\n\
-         /// Where it was looked for.\npub const FOLDER: &str = {shown:?};\n"
+         /// Where it was looked for.\npub const FOLDER: &str = {folder:?};\n"
     );
     let text = if available {
         about + &modules(&src)

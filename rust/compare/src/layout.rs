@@ -18,6 +18,13 @@ pub fn start(block_size: u32, index: u32) -> u64 {
     index as u64 * data + 4 * ((index - 1).count_ones() as u64 + 2)
 }
 
+/// The index of the block that a position lies in.
+pub fn index(block_size: u32, position: u32) -> u32 {
+    let most = position / (block_size - 8);
+    let holds = |&index: &u32| start(block_size, index) <= position as u64;
+    (0..=most).rev().find(holds).expect("index 0 starts at 0")
+}
+
 /// The positions up to `around` on either side of the borders of the first `blocks` blocks, as far as 32 bits go.
 pub fn borders(block_size: u32, blocks: u32, around: u64) -> impl Iterator<Item = u32> {
     (0..blocks)

@@ -1,7 +1,14 @@
-//! What the comparisons share: random numbers, positions at block borders, the fixed list of answers.
+//! What the comparisons share: random numbers, positions at block borders, cards, plain models, the fixed list.
 
+pub mod cards;
 pub mod fixed;
+#[cfg(oracle)]
+pub mod grown;
 pub mod layout;
+#[cfg(feature = "check")]
+pub mod model;
+#[cfg(feature = "store")]
+pub mod plain;
 mod random;
 
 pub use random::Random;

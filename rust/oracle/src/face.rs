@@ -4,75 +4,33 @@ use crate::bd::LfsCache;
 use crate::block_alloc::alloc::{lfs_alloc, lfs_alloc_ckpoint, lfs_alloc_drop};
 use crate::file::ctz::{lfs_ctz_extend, lfs_ctz_find, lfs_ctz_index, lfs_ctz_traverse};
 use crate::file::ops::{lfs_file_flush, lfs_file_flushedread, lfs_file_seek_, lfs_file_write_};
-use crate::file::{LfsCtz, LfsFile};
 use crate::fs::{Lfs, LfsLookahead};
 use crate::lfs_config::LfsConfig;
 use crate::shims::device::Device;
 use crate::types::LFS_FILE_MAX;
+use crate::values::{File, Found, Window};
 use core::ffi::c_void;
 use core::ptr::null;
 
-/// The lookahead window. The Rust's map has as many bytes as the lookahead; the rest here stays as it was set.
-#[derive(Clone, Copy, PartialEq, Eq, Debug)]
-pub struct Window {
-    pub map: [u8; 64],
-    pub start: u32,
-    pub next: u32,
-    pub size: u32,
-    pub ckpoint: u32,
-}
-
-/// Where a lookup led, and how many pointers it read on the way.
-#[derive(Clone, Copy, PartialEq, Eq, Debug)]
-pub struct Found {
-    pub block: u32,
-    pub offset: u32,
-    pub hops: u32,
-}
-
-/// An open file of the Rust, outside any directory; it keeps its block between calls.
-pub struct File(LfsFile);
-
-impl File {
-    /// A file with this list, at this position, open for reading and writing.
-    pub fn open(head: u32, size: u32, position: u32) -> File {
-        // Numbers and null pointers: all zero is a value of each field.
-        let mut file: LfsFile = unsafe { core::mem::zeroed() };
-        file.ctz = LfsCtz { head, size };
-        file.pos = position;
-        file.flags = 3;
-        File(file)
-    }
-
-    pub fn head(&self) -> u32 {
-        self.0.ctz.head
-    }
-
-    pub fn size(&self) -> u32 {
-        self.0.ctz.size
-    }
-}
-
 /// The Rust with all that it works on.
 pub struct Oracle {
-    cfg: Box<LfsConfig>,
-    lfs: Box<Lfs>,
-    map: Box<[u8; 64]>,
-    pub device: Box<Device>,
+    cfg: LfsConfig,
+    lfs: Lfs,
+    map: [u8; 64],
+    pub device: Device,
     /// Head and size of each file, file numbers rising: what a scan visits.
-    pub files: Box<Vec<(u32, u32)>>,
+    pub files: Vec<(u32, u32)>,
 }
 
 impl Oracle {
     /// An erased card of good blocks, no files, a fresh window that starts at `start`.
     pub fn new(block_size: u32, block_count: u32, lookahead: u32, start: u32) -> Oracle {
         // Numbers, null pointers and absent functions: all zero is a value of each field.
-        let mut cfg: Box<LfsConfig> = Box::new(unsafe { core::mem::zeroed() });
+        let mut cfg: LfsConfig = unsafe { core::mem::zeroed() };
         cfg.block_size = block_size;
         cfg.block_count = block_count;
         cfg.lookahead_size = lookahead;
-        let mut map = Box::new([0; 64]);
-        let mut lfs: Box<Lfs> = Box::new(unsafe { core::mem::zeroed() });
+        let mut lfs: Lfs = unsafe { core::mem::zeroed() };
         lfs.block_count = block_count;
         lfs.file_max = LFS_FILE_MAX as u32;
         lfs.rcache = LfsCache::none();
@@ -81,14 +39,14 @@ impl Oracle {
             size: 0,
             next: 0,
             ckpoint: block_count,
-            buffer: map.as_mut_ptr(),
+            buffer: core::ptr::null_mut(),
         };
         Oracle {
             cfg,
             lfs,
-            map,
-            device: Box::new(Device::new(block_size, block_count)),
-            files: Box::new(Vec::new()),
+            map: [0; 64],
+            device: Device::new(block_size, block_count),
+            files: Vec::new(),
         }
     }
 
@@ -97,19 +55,19 @@ impl Oracle {
         Oracle::new(block_size, 0, 8, 0)
     }
 
-    /// The pointer that the Rust wants; its inner ones are set anew, since the owner may have touched the boxes.
+    /// The pointer that the Rust wants; its inner ones are set anew for each call, since the value may have moved.
     fn pointer(&mut self) -> *mut Lfs {
-        self.lfs.cfg = &*self.cfg;
-        self.lfs.device = &mut *self.device;
-        self.lfs.files = &*self.files;
+        self.lfs.cfg = &self.cfg;
+        self.lfs.device = &mut self.device;
+        self.lfs.files = &self.files;
         self.lfs.lookahead.buffer = self.map.as_mut_ptr();
-        &mut *self.lfs
+        &mut self.lfs
     }
 
     pub fn window(&self) -> Window {
         let held = &self.lfs.lookahead;
         Window {
-            map: *self.map,
+            map: self.map,
             start: held.start,
             next: held.next,
             size: held.size,
@@ -118,7 +76,7 @@ impl Oracle {
     }
 
     pub fn set_window(&mut self, window: Window) {
-        *self.map = window.map;
+        self.map = window.map;
         let held = &mut self.lfs.lookahead;
         held.start = window.start;
         held.next = window.next;
@@ -136,8 +94,8 @@ impl Oracle {
     pub fn find(&mut self, head: u32, size: u32, position: u32) -> Result<Found, i32> {
         let mut none = LfsCache::none();
         let (mut block, mut offset) = (0, 0);
-        let lfs = self.pointer();
         let before = self.device.reads;
+        let lfs = self.pointer();
         let err = lfs_ctz_find(
             lfs,
             null(),

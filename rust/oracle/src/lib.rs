@@ -10,11 +10,15 @@ mod face;
 #[cfg(oracle)]
 mod shims;
 #[cfg(oracle)]
+mod values;
+#[cfg(oracle)]
 use shims::{bd, fs};
 #[cfg(oracle)]
 use shims::{lfs_assert, lfs_err, lfs_pass_err, lfs_trace};
 
 #[cfg(oracle)]
-pub use face::{File, Found, Oracle, Window};
+pub use face::Oracle;
 #[cfg(oracle)]
 pub use shims::device::Device;
+#[cfg(oracle)]
+pub use values::{File, Found, Window};

@@ -47,7 +47,7 @@ fn allocation() {
     }
     assert_eq!(oracle.alloc(), Err(-28));
     let mut oracle = Oracle::new(128, 10, 8, 0);
-    *oracle.files = vec![(0, 1), (1, 1), (4, 1)];
+    oracle.files = vec![(0, 1), (1, 1), (4, 1)];
     assert_eq!((oracle.alloc(), oracle.alloc()), (Ok(2), Ok(3)));
     let window = oracle.window();
     assert_eq!((window.next, window.ckpoint), (5, 5));
@@ -86,7 +86,7 @@ fn reading_in_steps() {
 fn writing_keeps_the_tail() {
     let mut oracle = Oracle::new(128, 64, 8, 0);
     let list = grow(&mut oracle, 9);
-    *oracle.files = vec![(list.blocks[8], list.size)];
+    oracle.files = vec![(list.blocks[8], list.size)];
     let mut file = File::open(list.blocks[8], list.size, 300);
     assert_eq!(oracle.write(&mut file, &[0xAA; 100]), 100);
     assert_eq!(oracle.flush(&mut file), 0);

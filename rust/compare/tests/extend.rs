@@ -1,0 +1,138 @@
+//! One growth against the oracle: block, offset, window and the whole image, on good cards and with refused erases.
+#![cfg(feature = "extend")]
+
+#[cfg(oracle)]
+mod with_oracle {
+    use compare::cards::{self, BLOCK_SIZES};
+    use compare::{grown, Random};
+    use oracle::Oracle;
+    use tidmaruls::{Card, Geometry};
+
+    /// The same card on both sides, and the files that both list.
+    struct Bench {
+        card: Card,
+        oracle: Oracle,
+        files: Vec<(u32, u32)>,
+    }
+
+    impl Bench {
+        fn new(geometry: Geometry, random: &mut Random) -> Bench {
+            let (block_size, block_count) = (geometry.block_size, geometry.block_count);
+            let lookahead = cards::lookahead(random);
+            let start = random.below(block_count);
+            let mut card = cards::blank(geometry, lookahead, start);
+            card.image = cards::noise(card.image.len(), block_count, random);
+            let mut oracle = Oracle::new(block_size, block_count, lookahead, start);
+            oracle.device.image.copy_from_slice(&card.image);
+            if random.one_in(2) {
+                let share = random.between(2, 20);
+                card.health
+                    .iter_mut()
+                    .for_each(|health| *health = random.one_in(share) as u8);
+                oracle.device.health.copy_from_slice(&card.health);
+            }
+            let files = vec![(tidmaruls::NULL, 0); random.between(1, 8) as usize];
+            Bench {
+                card,
+                oracle,
+                files,
+            }
+        }
+
+        fn list_files(&mut self) {
+            let numbered = self.files.iter().zip(0..);
+            let files: Vec<(u32, u32, u32)> = numbered
+                .map(|(&(head, size), number)| (number, size, head))
+                .collect();
+            self.card.table = cards::table(&files);
+            self.oracle.files.clone_from(&self.files);
+        }
+
+        fn ckpoint(&mut self) {
+            assert_eq!(self.card.ckpoint(), Ok(()));
+            self.oracle.ckpoint();
+        }
+
+        /// One growth of a file on both sides, compared.
+        fn extend(&mut self, file: usize) -> Result<(u32, u32), i32> {
+            let (head, size) = self.files[file];
+            let ours = self.card.extend(head, size);
+            let theirs = self.oracle.extend(head, size);
+            let about = (self.card.geometry, head, size);
+            assert_eq!(ours, theirs, "{about:?}");
+            let (lookahead, window) = (self.card.lookahead, self.oracle.window());
+            assert!(
+                grown::same_window(&self.card.window, &window, lookahead),
+                "{about:?}: {:?}, oracle {window:?}",
+                self.card.window
+            );
+            assert!(self.card.image == self.oracle.device.image, "{about:?}");
+            ours
+        }
+
+        /// Fills the new block from `offset`, to its end or not, and gives the file its longer list.
+        fn fill(&mut self, file: usize, block: u32, offset: u32, random: &mut Random) {
+            let geometry = self.card.geometry;
+            let room = geometry.block_size - offset;
+            let whole = random.one_in(2);
+            let length = if whole { room } else { random.between(1, room) };
+            let bytes = cards::noise(length as usize, geometry.block_count, random);
+            let at = block as usize * geometry.block_size as usize + offset as usize;
+            self.card.image[at..at + bytes.len()].copy_from_slice(&bytes);
+            assert!(self.oracle.program(block, offset, &bytes));
+            let size = self.files[file].1;
+            self.files[file] = (block, size + length);
+        }
+
+        fn run(mut self, calls: u32, random: &mut Random) {
+            for _ in 0..calls {
+                let file = random.below(self.files.len() as u32) as usize;
+                if random.one_in(2) {
+                    self.ckpoint();
+                }
+                self.list_files();
+                match self.extend(file) {
+                    // now and then the new block is left unlisted
+                    Ok(_) if random.one_in(8) => {}
+                    Ok((block, offset)) => self.fill(file, block, offset, random),
+                    Err(_) => {
+                        self.files[file] = (tidmaruls::NULL, 0);
+                        self.ckpoint();
+                    }
+                }
+            }
+        }
+    }
+
+    /// Cards of up to this many bytes.
+    fn on_cards(random: &mut Random, cards: u32, calls: u32, most: u32) -> u32 {
+        for _ in 0..cards {
+            let block_size = random.pick(&BLOCK_SIZES);
+            let high = (most / block_size).clamp(1, 2000);
+            let low = if random.one_in(4) { 1 } else { high.min(10) };
+            let geometry = cards::geometry(block_size, random.between(low, high));
+            Bench::new(geometry, random).run(calls, random);
+        }
+        cards * calls
+    }
+
+    #[test]
+    fn small_cards() {
+        let mut random = Random::new(40);
+        let calls = on_cards(&mut random, 300, 200, 40_000);
+        println!("extend: {calls} growths on cards of up to 40,000 bytes");
+    }
+
+    #[test]
+    fn large_cards() {
+        let mut random = Random::new(41);
+        let calls = on_cards(&mut random, 40, 100, 16_777_216);
+        println!("extend: {calls} growths on cards of up to 16,777,216 bytes");
+    }
+}
+
+#[cfg(not(oracle))]
+#[test]
+fn extend_as_the_oracle() {
+    compare::skipped();
+}
