@@ -126,7 +126,7 @@ fn further_from(b: u32, n: u32, image: &[u8], top: u32, head: u32) -> Checked
     Checked::Sound
 }
 
-// The list check: the pointer-0 walk from the top, and if that is clean the further pointers; -22 as 01 says.
+// The list check: the pointer-0 walk from the top, and if that is clean the further pointers; an empty list by its head alone.
 pub fn ctz_check(g: Geometry, image: &[u8], head: u32, size: u32) -> Checked
     ensures { λ r. ⌜ r ≡ checkOf (g .«block_size») (g .«block_count») (now (image .entry)) head size ⌝ }
 {

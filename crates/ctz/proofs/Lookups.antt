@@ -1,13 +1,11 @@
 -- A lookup by its cases, and what its answer tells. Assumes nothing.
-use mathlib.Core.Path.{_≡_, refl, sym}
-use mathlib.Core.Bool.{Bool, true, false}
+use mathlib.Core.Path.{_≡_, sym}
+use mathlib.Core.Bool.{true, false}
 use mathlib.Core.List.{List}
-use Prim.Native.Nat.{ℕ, zero, suc, _-_, _^_, _≤_, _<_}
+use Prim.Native.Nat.{ℕ, suc, _-_, _≤_, _<_}
 use native.Mathlib.Omega.{arith}
-use borrow.Author.Tests.{lt-ltb, le-ltb, eq-eqb, ne-eqb, ltb-true}
-use lib.Dec.{ltb}
+use borrow.Author.Tests.{lt-ltb, le-ltb, eq-eqb, ne-eqb}
 use lib.ListN.{length}
-use Rattle.hops.specs.Walk.{pick}
 use Rattle.layout.specs.Layout.{indexAt, offsetAt}
 use Rattle.layout.proofs.Places.{offset-inside}
 use Rattle.layout.proofs.Served.{served, index-in}
@@ -16,7 +14,8 @@ use Rattle.card.specs.Card.{goodCard}
 use Rattle.ctz.specs.Bounds.{Sought}
 use Rattle.ctz.specs.Lookup.{walk, walkTo, lookupOf}
 use Rattle.ctz.specs.declared.Found.{Found}
-use Rattle.ctz.specs.declared.Found.the-variants.{At, Damaged, Refused}
+use Rattle.ctz.specs.declared.Found.the-variants.{At, Refused}
+use Rattle.ctz.proofs.Walked.{Trail, lost, here, onward, trail}
 
 module _ (B N : ℕ) (image : List ℕ) (head size p : ℕ) where
   pub lookup-card : goodCard B N (length image) ≡ false → Refused ≡ lookupOf B N image head size p
@@ -51,36 +50,19 @@ module _ (B N : ℕ) (image : List ℕ) (head size p : ℕ) where
 -- ---- what an answer tells
 
 -- a block that is handed back was compared with N, and the offset is the one given
-module _ (ptr : ℕ → ℕ → ℕ) (N off tgt : ℕ) where
-  pub walk-tells : (f cur k hops : ℕ) {k′ off′ h : ℕ} → walk f ptr N off tgt cur k hops ≡ At k′ off′ h → (k′ < N) × (off′ ≡ off)
-  unfolding walk
-  walk-tells zero cur k hops e = let z : _≡_ {A = ℕ} 0 1 = cc in absurd (omega arith)
-  walk-tells (suc f) cur k hops {k′} {off′} {h} e =
-      go (ltb k N) (ltb tgt cur) refl (walk f ptr N off tgt (cur - 2 ^ pick cur tgt) (ptr k (pick cur tgt)) (suc hops))
-      (walk-tells f (cur - 2 ^ pick cur tgt) (ptr k (pick cur tgt)) (suc hops)) e
-    where
-      go : (s t : Bool) → ltb k N ≡ s → (r : Found) → (r ≡ At k′ off′ h → (k′ < N) × (off′ ≡ off))
-          → elim s [ false ↦ Damaged | true ↦ elim t [ false ↦ At k off hops | true ↦ r ] ] ≡ At k′ off′ h → (k′ < N) × (off′ ≡ off)
-      go false t b r ih q = let z : _≡_ {A = ℕ} 0 1 = cc in absurd (omega arith)
-      go true true b r ih q = ih q
-      go true false b r ih q =
-          let same : k ≡ k′ = cc in
-          let o : off ≡ off′ = cc in
-          (omega (arith, ltb-true k N b), sym o)
+tells : {ptr : ℕ → ℕ → ℕ} {N off tgt cur k n k′ off′ h : ℕ} {r : Found} → Trail ptr N off tgt cur k n r → r ≡ At k′ off′ h → (k′ < N) × (off′ ≡ off)
+tells lost e = let z : _≡_ {A = ℕ} 0 1 = cc in absurd (omega arith)
+tells {off = off} {k = k} {k′ = k′} {off′ = off′} (here b l) e =
+    let same : k ≡ k′ = cc in
+    let place : off ≡ off′ = cc in
+    (omega arith, sym place)
+tells (onward b l rest) e = tells rest e
 
-  -- the walk refuses nothing
-  pub walk-answers : (f cur k hops : ℕ) → walk f ptr N off tgt cur k hops ≡ Refused → ⊥
-  unfolding walk
-  walk-answers zero cur k hops e = let z : _≡_ {A = ℕ} 0 1 = cc in omega arith
-  walk-answers (suc f) cur k hops e =
-      go (ltb k N) (ltb tgt cur) (walk f ptr N off tgt (cur - 2 ^ pick cur tgt) (ptr k (pick cur tgt)) (suc hops))
-      (walk-answers f (cur - 2 ^ pick cur tgt) (ptr k (pick cur tgt)) (suc hops)) e
-    where
-      go : (s t : Bool) (r : Found) → (r ≡ Refused → ⊥)
-          → elim s [ false ↦ Damaged | true ↦ elim t [ false ↦ At k off hops | true ↦ r ] ] ≡ Refused → ⊥
-      go false t r ih q = let z : _≡_ {A = ℕ} 0 1 = cc in omega arith
-      go true true r ih q = ih q
-      go true false r ih q = let z : _≡_ {A = ℕ} 0 1 = cc in omega arith
+-- the walk refuses nothing
+answers : {ptr : ℕ → ℕ → ℕ} {N off tgt cur k n : ℕ} {r : Found} → Trail ptr N off tgt cur k n r → r ≡ Refused → ⊥
+answers lost e = let z : _≡_ {A = ℕ} 0 1 = cc in omega arith
+answers (here b l) e = let z : _≡_ {A = ℕ} 0 1 = cc in omega arith
+answers (onward b l rest) e = answers rest e
 
 -- a block and an offset that a lookup behind its tests hands back
 pub record Told (B N p k off : ℕ) : Type 0 where
@@ -89,13 +71,16 @@ pub record Told (B N p k off : ℕ) : Type 0 where
   pub inside : off < B
 
 module _ {B N size p len : ℕ} (image : List ℕ) (head : ℕ) (s : Sought B N size p len) where
-  pub found-tells : {k off h : ℕ} → walkTo image B N head size p ≡ At k off h → Told B N p k off
+  -- the way of the walk that a lookup makes
+  pub found-trail : Trail (pointer image B) N (offsetAt B p) (indexAt B p) (indexAt B (size - 1)) head 0 (walkTo image B N head size p)
   unfolding walkTo
+  found-trail = trail (pointer image B) N (offsetAt B p) (indexAt B p) (suc (indexAt B (size - 1))) (indexAt B (size - 1)) head 0
+
+  pub found-tells : {k off h : ℕ} → walkTo image B N head size p ≡ At k off h → Told B N p k off
   found-tells e =
-      let t = walk-tells (pointer image B) N (offsetAt B p) (indexAt B p) (suc (indexAt B (size - 1))) (indexAt B (size - 1)) head 0 e in
+      let t = tells found-trail e in
       let inside = offset-inside B p (index-in (served (s .card .sized) (omega (arith, s .most, s .below)))) in
       record { below = t .0; place = t .1; inside = omega (arith, t .1) }
 
   pub found-answers : walkTo image B N head size p ≡ Refused → ⊥
-  unfolding walkTo
-  found-answers e = walk-answers (pointer image B) N (offsetAt B p) (indexAt B p) (suc (indexAt B (size - 1))) (indexAt B (size - 1)) head 0 e
+  found-answers e = answers found-trail e

@@ -11,6 +11,7 @@ use Rattle.layout.specs.Layout.{indexAt}
 use Rattle.card.specs.Blocks.{pointer}
 use Rattle.ctz.specs.Visits.{stepOf, nextVisit, Visited, hand, visit, visitOf, visitAt, beginOf}
 use Rattle.ctz.specs.declared.visit.Visit.{Visit}
+use Rattle.ctz.specs.declared.visit.Begun.{Begun}
 use Rattle.ctz.specs.declared.visit.Begun.the-variants as begun
 use Rattle.ctz.specs.declared.visit.Step.{Step}
 use Rattle.ctz.specs.declared.visit.Step.the-variants.{Damaged, Last, More, Refused}
@@ -32,45 +33,53 @@ pub visit-empty : (B N : ℕ) (image : List ℕ) (head size : ℕ) → size ≡ 
 unfolding visitOf
 visit-empty B N image head size h = rw (visitOf, eq-eqb size 0 h)
 
--- so, by what a visit begins with: the whole of it
-module _ (B N : ℕ) (image : List ℕ) (head size : ℕ) where
-  pub begun-at : {v : Visit} → beginOf B N head size ≡ begun.At v → visitOf B N image head size ≡ visitFrom (pointer image B) N v
-  unfolding beginOf visitOf
-  begun-at {v} e = go (cardFits B N) (ltb 2147483647 size) (eqb size 0) e
-    where
-      top : ℕ
-      top = indexAt B (size - 1)
+-- The ways that a visit begins, each with the whole of it.
+pub data Beginning (B N : ℕ) (image : List ℕ) (head size : ℕ) : Begun → Visited → Type 0 where
+  refused : {r : Visited} → Beginning B N image head size begun.Refused r
+  empty : Beginning B N image head size begun.Empty (record { handed = []; clean = true })
+  at : Beginning B N image head size (begun.At (visitAt head (indexAt B (size - 1))))
+      (visitFrom (pointer image B) N (visitAt head (indexAt B (size - 1))))
 
+module _ (B N : ℕ) (image : List ℕ) (head size : ℕ) where
+  pub beginning : Beginning B N image head size (beginOf B N head size) (visitOf B N image head size)
+  unfolding beginOf visitOf
+  beginning = go (cardFits B N) (ltb 2147483647 size) (eqb size 0)
+    where
       go : (f l z : Bool)
-          → elim f [
+          → Beginning B N image head size
+          (elim f [
             | false ↦ begun.Refused
-            | true ↦ elim l [ true ↦ begun.Refused | false ↦ elim z [ true ↦ begun.Empty | false ↦ begun.At (visitAt head top) ] ]
-          ] ≡ begun.At v
-          → elim z [ true ↦ record { handed = []; clean = true } | false ↦ visit (pointer image B) N top head false 0 ]
-          ≡ visitFrom (pointer image B) N v
-      go true false false q = let same : visitAt head top ≡ v = cc in ap (λ (u : Visit). visitFrom (pointer image B) N u) same
-      go true false true q = let z : _≡_ {A = ℕ} 0 1 = cc in absurd (omega arith)
-      go true true z q = let z : _≡_ {A = ℕ} 0 1 = cc in absurd (omega arith)
-      go false l z q = let z : _≡_ {A = ℕ} 0 1 = cc in absurd (omega arith)
+            | true ↦ elim l [
+              | true ↦ begun.Refused
+              | false ↦ elim z [ true ↦ begun.Empty | false ↦ begun.At (visitAt head (indexAt B (size - 1))) ]
+            ]
+          ])
+          (elim z [
+            | true ↦ record { handed = []; clean = true }
+            | false ↦ visit (pointer image B) N (indexAt B (size - 1)) head false 0
+          ])
+      go false l z = refused
+      go true true z = refused
+      go true false true = empty
+      go true false false = at
+
+  pub begun-at : {v : Visit} → beginOf B N head size ≡ begun.At v → visitOf B N image head size ≡ visitFrom (pointer image B) N v
+  begun-at {v} e = go beginning e
+    where
+      go : {s : Begun} {r : Visited} → Beginning B N image head size s r → s ≡ begun.At v → r ≡ visitFrom (pointer image B) N v
+      go refused q = let z : _≡_ {A = ℕ} 0 1 = cc in absurd (omega arith)
+      go empty q = let z : _≡_ {A = ℕ} 0 1 = cc in absurd (omega arith)
+      go at q =
+          let same : visitAt head (indexAt B (size - 1)) ≡ v = cc in
+          ap (λ (u : Visit). visitFrom (pointer image B) N u) same
 
   pub begun-empty : beginOf B N head size ≡ begun.Empty → visitOf B N image head size ≡ record { handed = []; clean = true }
-  unfolding beginOf visitOf
-  begun-empty e = go (cardFits B N) (ltb 2147483647 size) (eqb size 0) e
+  begun-empty e = go beginning e
     where
-      top : ℕ
-      top = indexAt B (size - 1)
-
-      go : (f l z : Bool)
-          → elim f [
-            | false ↦ begun.Refused
-            | true ↦ elim l [ true ↦ begun.Refused | false ↦ elim z [ true ↦ begun.Empty | false ↦ begun.At (visitAt head top) ] ]
-          ] ≡ begun.Empty
-          → _≡_ {A = Visited} (elim z [ true ↦ record { handed = []; clean = true } | false ↦ visit (pointer image B) N top head false 0 ])
-          (record { handed = []; clean = true })
-      go true false true q = refl
-      go true false false q = let z : _≡_ {A = ℕ} 0 1 = cc in absurd (omega arith)
-      go true true z q = let z : _≡_ {A = ℕ} 0 1 = cc in absurd (omega arith)
-      go false l z q = let z : _≡_ {A = ℕ} 0 1 = cc in absurd (omega arith)
+      go : {s : Begun} {r : Visited} → Beginning B N image head size s r → s ≡ begun.Empty → r ≡ record { handed = []; clean = true }
+      go refused q = let z : _≡_ {A = ℕ} 0 1 = cc in absurd (omega arith)
+      go empty q = refl
+      go at q = let z : _≡_ {A = ℕ} 0 1 = cc in absurd (omega arith)
 
   -- behind the tests nothing is refused
   pub begun-answers : cardFits B N ≡ true → size ≤ 2147483647 → beginOf B N head size ≡ begun.Refused → ⊥

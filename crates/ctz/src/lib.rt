@@ -74,7 +74,7 @@ pub fn find_in(b: u32, n: u32, image: &[u8], head: u32, size: u32, pos: u32) -> 
     walk_to(b, n, image, off, tgt, top, head)
 }
 
-// The lookup of a position: its block, offset and hops; -22 and -84 as 01 says.
+// The lookup of a position: its block, offset and hops; the null block where the list is empty, refused at or past the size.
 pub fn ctz_find(g: Geometry, image: &[u8], head: u32, size: u32, pos: u32) -> Found
     ensures { λ r. ⌜ r ≡ lookupOf (g .«block_size») (g .«block_count») (now (image .entry)) head size pos ⌝ }
 {

@@ -28,7 +28,7 @@ width s = stored-width _ (s .pre .above) (s .fits .i .fits)
 pointer-requires : tie.Need-pointer-requires Inv-loop μ-loop
 pointer-requires c κs =
     let s = c .before .before .before in
-    asked {i = s .args .i} (s .pre .clean .walks) (s .pre .above) (omega arith) (c .loop-test .taken) (head-below (s .pre .clean))
+    asked {i = s .args .i} (s .pre .clean .walks) (s .pre .above) (omega arith) (omega arith) (head-below (s .pre .clean))
 
 power-requires : tie.Need-power-requires Inv-loop μ-loop
 power-requires c κs = omega (arith, width (c .before .before .before .before))
@@ -36,7 +36,7 @@ power-requires c κs = omega (arith, width (c .before .before .before .before))
 below-in-requires : tie.Need-below-in-requires Inv-loop μ-loop
 below-in-requires c κs =
     let s = c .before .before .before .before .before in
-    let within = stored-within (s .args .i) _ (s .pre .above) (c .before .before .loop-test .taken) in
+    let within = stored-within (s .args .i) (c .before .before .before .loop .x) (s .pre .above) (omega arith) in
     fewer _ (omega (arith, c .power .ensures)) (s .pre .clean)
 
 -- the number met is the one that lies 2 to the x below

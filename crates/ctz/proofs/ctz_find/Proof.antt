@@ -1,6 +1,7 @@
 -- `ctz::ctz_find` meets its contract: each test is one case of `lookupOf`. Assumes nothing.
 use mathlib.Core.Path.{_≡_, sym, _∙_}
 use mathlib.Core.Bool.{true}
+use native.Mathlib.Omega.{arith}
 use denote.Ref.{now}
 use borrow.Author.Needs.{needs}
 use borrow.Author.Tests.{not-true, not-false}
@@ -30,7 +31,7 @@ returns-3 : tie.Need-returns-3
 returns-3 c = lookup-empty _ _ _ _ _ _ (good (c .before .before)) (c .before .if2 .left) (c .if3 .taken)
 
 returns-4 : tie.Need-returns-4
-returns-4 c = let e = c .before .before in lookup-past _ _ _ _ _ _ (good (e .before)) (e .if2 .left) (c .before .if3 .left) (c .if4 .taken)
+returns-4 c = let e = c .before .before in lookup-past _ _ _ _ _ _ (good (e .before)) (e .if2 .left) (c .before .if3 .left) (omega arith)
 
 find-in-requires : tie.Need-find-in-requires
 find-in-requires c κs =

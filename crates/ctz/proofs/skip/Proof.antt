@@ -1,5 +1,6 @@
 -- `ctz::skip` meets its contract: the two counts, and the smaller of them. Assumes nothing.
 use mathlib.Core.Path.{sym}
+use Prim.Native.Nat.{_-_}
 use native.Mathlib.Nat.{min-eq-left, min-eq-right, le-of-lt}
 use native.Mathlib.Omega.{arith}
 use borrow.Author.Needs.{needs}
@@ -11,7 +12,7 @@ sub-log : tie.Need-sub-log
 sub-log c = search needs
 
 sub-log-2 : tie.Need-sub-log-2
-sub-log-2 c = leading-below _ (omega arith) (omega arith)
+sub-log-2 c = let a = c .args in omega (arith, leading-below (a .cur - a .tgt) (omega arith) (omega arith))
 
 returns : tie.Need-returns
 returns c = sym (min-eq-left (c .if1 .taken))
