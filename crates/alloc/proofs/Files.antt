@@ -1,0 +1,57 @@
+-- The marking of one file, by the steps of its visit. Assumes nothing.
+use mathlib.Core.Path.{_≡_, refl, ap, sym, _∙_}
+use mathlib.Core.Bool.{true, false}
+use mathlib.Core.List.{List, [], _∷_}
+use Prim.Native.Nat.{ℕ, _-_}
+use native.Mathlib.Omega.{arith}
+use Rattle.layout.specs.Layout.{indexAt}
+use Rattle.card.specs.Blocks.{pointer}
+use Rattle.ctz.specs.Visits.{Visited, hand, visitAt, visitOf}
+use Rattle.ctz.proofs.Visiting.{visitFrom, visit-begins, visit-empty}
+use Rattle.window.specs.Marks.{markMap, markAll}
+use Rattle.alloc.specs.Visits.{told, FileMarked}
+
+-- a visit that marks from the map `before` on comes to what another does that marks from the map `now` on
+pub record Goes (start size N : ℕ) (before : List ℕ) (whole : Visited) (now : List ℕ) (rest : Visited) : Type 0 where
+  pub marks : markAll start size N before (whole .handed) ≡ markAll start size N now (rest .handed)
+  pub ends : whole .clean ≡ rest .clean
+
+module _ {start size N : ℕ} {before : List ℕ} {whole : Visited} {now : List ℕ} {rest : Visited} (g : Goes start size N before whole now rest) where
+  -- a block is handed over and marked, and the visit goes on
+  pub goes-on : {after : List ℕ} {k : ℕ} {next : Visited} → rest ≡ hand k next → after ≡ markMap start size N now k
+      → Goes start size N before whole after next
+  unfolding markAll
+  goes-on {after} {k} {next} e m = record {
+    marks = g .marks ∙ ap (λ (v : Visited). markAll start size N now (v .handed)) e ∙ ap (λ (x : List ℕ). markAll start size N x (next .handed)) (sym m);
+    ends = g .ends ∙ ap (λ (v : Visited). v .clean) e;
+  }
+
+  -- .. or ends, with the last block or with -84
+  pub goes-last : {after : List ℕ} {k : ℕ} → rest ≡ record { handed = k ∷ []; clean = true } → after ≡ markMap start size N now k
+      → FileMarked start size N (told whole) before after true
+  unfolding markAll
+  goes-last e m = record {
+    marks = m ∙ sym (g .marks ∙ ap (λ (v : Visited). markAll start size N now (v .handed)) e);
+    ends = sym (g .ends ∙ ap (λ (v : Visited). v .clean) e);
+  }
+
+  pub goes-wrong : rest ≡ record { handed = []; clean = false } → FileMarked start size N (told whole) before now false
+  unfolding markAll
+  goes-wrong e = record {
+    marks = sym (g .marks ∙ ap (λ (v : Visited). markAll start size N now (v .handed)) e);
+    ends = sym (g .ends ∙ ap (λ (v : Visited). v .clean) e);
+  }
+
+module _ (start size B N : ℕ) (image : List ℕ) (before : List ℕ) (head bytes : ℕ) where
+  -- an empty file has no block
+  pub no-block : bytes ≡ 0 → FileMarked start size N (told (visitOf B N image head bytes)) before before true
+  unfolding markAll
+  no-block z = rw (visit-empty B N image head bytes z) (record { marks = refl; ends = refl })
+
+  -- any other is visited from its last index
+  pub goes : (top : ℕ) → (bytes ≡ 0 → ⊥) → top ≡ indexAt B (bytes - 1)
+      → Goes start size N before (visitOf B N image head bytes) before (visitFrom (pointer image B) N (visitAt head top))
+  goes top z e =
+      let whole : visitOf B N image head bytes ≡ visitFrom (pointer image B) N (visitAt head top) =
+      rw e (visit-begins B N image head bytes (omega arith)) in
+      rw whole (record { marks = refl; ends = refl })

@@ -1,0 +1,5 @@
+pub mod Files
+pub mod Scanning
+pub mod Turning
+pub mod Tested
+pub mod Told

@@ -1,0 +1,3 @@
+-- The definitions that the contracts of `alloc` cite.
+pub mod Visits
+pub mod Allocate

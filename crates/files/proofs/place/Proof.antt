@@ -1,0 +1,71 @@
+-- `files::place` meets its contract. The invariant: the files passed, and those before the number among the rest. Assumes nothing.
+use mathlib.Core.Path.{_≡_, refl, sym, ap, _∙_}
+use Prim.Native.Nat.{ℕ, _+_, _-_, _≤_}
+use native.Mathlib.Omega.{arith}
+use borrow.Author.Needs.{needs}
+use lib.ListN.{length}
+use lib.Seq.{slice, sets}
+use Rattle.files.specs.Table.{filesMax}
+use Rattle.files.specs.Change.{placeOf}
+use Rattle.files.proofs.Laws.{slots-ok, count-ok}
+use Rattle.files.proofs.Turns.{place-here, place-on, place-end}
+use Rattle.files.proofs.place.Statement.{statement}
+use Rattle.files.proofs.place.Tie as tie
+use Rattle.files.proofs.place.Reads as reads
+use Rattle.files.proofs.place.Lts as lts
+
+abbrev Inv-loop : tie.InvT-loop
+Inv-loop number t count i₀ i =
+    (length (t .files) ≡ filesMax) × (i ≤ count) × (count ≤ filesMax) × (placeOf number (slice 0 count (t .files)) ≡ i + placeOf number (slice i count (t .files)))
+
+abbrev μ-loop : tie.MeasureT-loop
+μ-loop number t count i₀ i = count - i
+
+loop-holds : tie.Need-loop-holds Inv-loop μ-loop
+loop-holds c = (slots-ok _ (c .pre), search needs, count-ok _ (c .pre), omega arith)
+
+cast-if1 : tie.Need-cast-if1 Inv-loop μ-loop
+cast-if1 c = search needs
+
+mul-if1 : tie.Need-mul-if1 Inv-loop μ-loop
+mul-if1 c = search needs
+
+element-copy-out-if1 : tie.Need-element-copy-out-if1 Inv-loop μ-loop
+element-copy-out-if1 c = search needs
+
+returns : tie.Need-returns Inv-loop μ-loop
+returns c =
+    let inv = c .before .before .loop .inv in
+    sym (inv .3 ∙ place-here _ _ _ _ (c .before .loop-test .taken) (omega arith) (c .if1 .taken))
+
+add-i : tie.Need-add-i Inv-loop μ-loop
+add-i c = search needs
+
+loop-less : tie.Need-loop-less Inv-loop μ-loop
+loop-less c = search needs
+
+loop-again : tie.Need-loop-again Inv-loop μ-loop
+loop-again c =
+    let inv = c .before .before .loop .inv in
+    (inv .0, search needs, inv .2, inv .3 ∙ place-on _ _ _ _ (c .before .loop-test .taken) (omega arith) (c .if1 .left))
+
+returns-2 : tie.Need-returns-2 Inv-loop μ-loop
+returns-2 c =
+    let inv = c .before .loop .inv in
+    sym (inv .3 ∙ place-end _ _ _ _ (inv .1) (c .loop-test .left))
+
+pub place-spec : {M : Type 1} → statement M
+place-spec =
+    tie.close
+    (tie.spec
+    Inv-loop
+    μ-loop
+    loop-holds
+    cast-if1
+    mul-if1
+    element-copy-out-if1
+    returns
+    add-i
+    loop-less
+    loop-again
+    returns-2)

@@ -1,0 +1,84 @@
+-- How create, remove and the store change a table.
+use mathlib.Core.Path.{_≡_}
+use mathlib.Core.Bool.{true, false}
+use mathlib.Core.List.{List, [], _∷_}
+use Prim.Native.Nat.{ℕ, suc, _+_, _-_, _≤_}
+use lib.ListN.{length, set}
+use lib.Seq.{sets}
+use lib.Dec.{ltb, eqb}
+use lib.IntN.{ℤ, pos, negsuc}
+use Rattle.files.specs.declared.Entry.{Entry}
+use Rattle.files.specs.declared.Table.{Table}
+use Rattle.files.specs.declared.Found.the-variants as found
+use Rattle.files.specs.declared.Change.{Change}
+use Rattle.files.specs.declared.Change.the-variants as change
+use Rattle.files.specs.declared.Changed.{Changed}
+use Rattle.files.specs.Table.{filesMax, nullBlock, held, file, tableOf}
+use Rattle.files.specs.Find.{findOf}
+
+-- an empty file
+abbrev pub emptyFile : ℕ → Entry
+emptyFile number = record { number = number; size = 0; head = nullBlock }
+
+-- how many files stand before file `number`
+unfoldable pub placeOf : ℕ → List Entry → ℕ
+placeOf number [] = 0
+placeOf number (e ∷ es) = elim (ltb (e .number) number) [ true ↦ suc (placeOf number es) | false ↦ 0 ]
+
+-- these files with an empty file `number` put in, numbers rising
+unfoldable pub insertOf : ℕ → List Entry → List Entry
+insertOf number [] = emptyFile number ∷ []
+insertOf number (e ∷ es) =
+    elim (ltb (e .number) number) [ true ↦ e ∷ insertOf number es | false ↦ emptyFile number ∷ (e ∷ es) ]
+
+-- these files without file `number`
+unfoldable pub withoutOf : ℕ → List Entry → List Entry
+withoutOf number [] = []
+withoutOf number (e ∷ es) = elim (eqb (e .number) number) [ true ↦ es | false ↦ e ∷ withoutOf number es ]
+
+-- a table with more files at its end
+abbrev pub appendOf : Table → List Entry → Table
+appendOf t es = record { files = sets (t .files) (t .count) es; count = t .count + length es }
+
+-- that there is room in u for the files of t from place `from` to place `to`
+pub record Room (u t : Table) (from to : ℕ) : Type 0 where
+  pub slots : length (t .files) ≡ filesMax
+  pub in-order : from ≤ to
+  pub to-le : to ≤ filesMax
+  pub fits : u .count + (to - from) ≤ filesMax
+
+-- a change, or a refusal that hands the table back as it came
+abbrev pub changed : Change → Table → Changed
+changed answer t = record { answer = answer; table = t }
+
+-- an empty file made: -22, -17 if it exists, then -12 if 32 files are held
+unfoldable pub createOf : Table → ℕ → Changed
+createOf t number =
+    elim (findOf t number) [
+      | found.At i ↦ changed change.Exists t
+      | found.Missing ↦ elim (ltb (t .count) filesMax) [
+        | true ↦ changed change.Done (tableOf (insertOf number (held t)))
+        | false ↦ changed change.Full t
+      ]
+      | found.Refused ↦ changed change.Refused t
+    ]
+
+unfoldable pub removeOf : Table → ℕ → Changed
+removeOf t number =
+    elim (findOf t number) [
+      | found.At i ↦ changed change.Done (tableOf (withoutOf number (held t)))
+      | found.Missing ↦ changed change.Missing t
+      | found.Refused ↦ changed change.Refused t
+    ]
+
+abbrev pub changeCode : Change → ℤ
+changeCode change.Done = pos 0
+changeCode change.Missing = negsuc 1
+changeCode change.Full = negsuc 11
+changeCode change.Exists = negsuc 16
+changeCode change.Refused = negsuc 21
+
+-- the table with another size and head of file i: the store's change
+abbrev pub putOf : Table → ℕ → ℕ → ℕ → Table
+putOf t i size head =
+    record { files = set (t .files) i (record { number = file t i .number; size = size; head = head }); count = t .count }

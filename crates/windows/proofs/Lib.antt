@@ -1,0 +1,16 @@
+pub mod Circle
+pub mod Has
+pub mod Marks
+pub mod Scan
+pub mod Alloc
+pub mod Answers
+pub mod InCall
+pub mod Came
+pub mod Exact
+pub mod Rotate
+pub mod Rest
+pub mod Space
+pub mod Needs
+pub mod Fuel
+pub mod Listed
+pub mod Vectors

@@ -1,0 +1,59 @@
+-- 01's worked allocations, N = 10 and L = 8. Assumes nothing.
+use mathlib.Core.Path.{_≡_, refl}
+use mathlib.Core.Bool.{true, false}
+use mathlib.Core.List.{[], _∷_}
+use Prim.Native.Nat.{ℕ, zero, suc}
+use lib.ListN.{replicate}
+use Rattle.window.specs.declared.Allocated.{Allocated}
+use Rattle.window.specs.declared.Answer.the-variants as answer
+use Rattle.window.specs.declared.Lookahead.{Lookahead}
+use Rattle.window.specs.Allocate.{allocBy, allocOf}
+use Rattle.window.specs.Marks.{markAll, markMap}
+use Rattle.window.specs.Scan.{Seen, cleared, has, scanOf}
+use Rattle.window.specs.Search.{freeFrom, skip, takeOf}
+use Rattle.window.specs.Value.{freshOf}
+use Rattle.windows.specs.Call.{start}
+use Rattle.windows.specs.Space.{askOf, goodUnlisted, tally, unlistedFrom}
+
+abbrev some : Seen
+some = record { blocks = 0 ∷ 1 ∷ 4 ∷ []; ok = true }
+
+abbrev free : Seen
+free = record { blocks = []; ok = true }
+
+abbrev broken : Seen
+broken = record { blocks = 2 ∷ []; ok = false }
+
+abbrev one : Allocated
+one = allocOf 10 8 some (freshOf 0 10)
+
+abbrev two : Allocated
+two = allocOf 10 8 some (one .window)
+
+-- listed 0, 1, 4: first 2, then 3, leaving next 5 and count 5
+listed : (one .answer ≡ answer.Block 2) × (two .answer ≡ answer.Block 3) × (two .window .next ≡ 5) × (two .window .ckpoint ≡ 5)
+unfolding allocOf allocBy takeOf freeFrom skip cleared markAll markMap scanOf
+listed = (refl, refl, refl, refl)
+
+abbrev after : ℕ → Lookahead → Lookahead
+after zero w = w
+after (suc k) w = allocOf 10 8 free (after k w) .window
+
+-- all free: ten allocations, the eleventh -28
+eleventh : (allocOf 10 8 free (after 9 (freshOf 0 10)) .answer ≡ answer.Block 9) × (allocOf 10 8 free (after 10 (freshOf 0 10)) .answer ≡ answer.NoSpace)
+unfolding allocOf allocBy takeOf freeFrom skip cleared markAll markMap scanOf
+eleventh = (refl, refl)
+
+-- a visit that fails: -84, dropped, the map as its steps marked it
+damaged : allocOf 10 8 broken (freshOf 3 10) ≡ record { answer = answer.Damaged; window = record { map = 0 ∷ (2 ∷ replicate 62 0); start = 3; next = 0; size = 0; ckpoint = 10 } }
+unfolding allocOf allocBy takeOf freeFrom skip cleared markAll markMap scanOf
+damaged = refl
+
+-- the circle from 3
+circle : unlistedFrom 3 10 (some .blocks) 10 ≡ 3 ∷ 5 ∷ 6 ∷ 7 ∷ 8 ∷ 9 ∷ 2 ∷ []
+unfolding unlistedFrom has
+circle = refl
+
+asks : (askOf 11 (λ b. true) 10 8 some 7 (freshOf 3 10) ≡ true) × (askOf 11 (λ b. true) 10 8 some 8 (freshOf 3 10) ≡ false) × (goodUnlisted (λ b. true) (some .blocks) 10 ≡ 7)
+unfolding askOf allocOf allocBy takeOf freeFrom skip cleared markAll markMap scanOf tally has
+asks = (refl, refl, refl)

@@ -1,0 +1,3 @@
+-- The words in which the theorems about windows are stated.
+pub mod Call
+pub mod Space

@@ -1,0 +1,1 @@
+// Nothing runs here: the crate holds the theory of the window, over the definitions of `window`.
