@@ -2,14 +2,19 @@
 use mathlib.Core.Path.{_≡_, refl, ap, sym, _∙_}
 use mathlib.Core.Bool.{true, false}
 use mathlib.Core.List.{List, [], _∷_}
-use Prim.Native.Nat.{ℕ, _-_}
+use Prim.Native.Nat.{ℕ, _-_, _<_}
 use native.Mathlib.Omega.{arith}
 use Rattle.layout.specs.Layout.{indexAt}
 use Rattle.card.specs.Blocks.{pointer}
 use Rattle.ctz.specs.Visits.{Visited, hand, visitAt, visitOf}
 use Rattle.ctz.proofs.Visiting.{visitFrom, visit-begins, visit-empty}
-use Rattle.window.specs.Marks.{markMap, markAll}
-use Rattle.alloc.specs.Visits.{told, FileMarked}
+use Rattle.files.specs.declared.Entry.{Entry}
+use Rattle.window.specs.Marks.{markMap, markAll, MarkAsked}
+use Rattle.alloc.specs.Visits.{told, FileAsked, FileMarked}
+
+-- a block that the visit hands over can be marked
+pub mark-asked : {start size B N len k : ℕ} {e : Entry} → FileAsked start size B N len e → k < N → MarkAsked start size N k
+mark-asked f h = record { few = f .card .few; start-lt = f .start-lt; size-le = f .size-le; block-lt = h }
 
 -- a visit that marks from the map `before` on comes to what another does that marks from the map `now` on
 pub record Goes (start size N : ℕ) (before : List ℕ) (whole : Visited) (now : List ℕ) (rest : Visited) : Type 0 where

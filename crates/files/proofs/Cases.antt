@@ -1,30 +1,29 @@
 -- What find answers, what its answers tell, and the calls that go by them, case by case. Assumes nothing.
-use mathlib.Core.Path.{_≡_, refl, sym, ap, _∙_}
-use mathlib.Core.Bool.{Bool, true, false}
+use mathlib.Core.Path.{_≡_, sym, ap, _∙_}
+use mathlib.Core.Bool.{true, false}
 use mathlib.Core.List.{_∷_, _++_}
-use Prim.Native.Nat.{ℕ, zero, suc, _+_, _≤_, _<_}
+use Prim.Native.Nat.{ℕ, _+_, _≤_, _<_}
 use native.Mathlib.Numerals.{add-one}
 use native.Mathlib.Nat.{sub-zero}
 use native.Mathlib.Omega.{arith}
-use lib.ListN.{take, drop, getD}
+use lib.ListN.{take, drop}
 use lib.Seq.{getD-take}
 use lib.Dec.{leb}
-use lib.IntN.{ℤ, pos, negsuc, _+ℤ_}
+use lib.IntN.{ℤ}
 use borrow.Author.Tests.{le-leb, lt-leb, lt-ltb, le-ltb}
 use Rattle.files.specs.declared.Table.{Table}
 use Rattle.files.specs.declared.Found.{Found}
 use Rattle.files.specs.declared.Found.the-variants as found
 use Rattle.files.specs.declared.Sized.the-variants as sized
 use Rattle.files.specs.declared.Change.the-variants as change
-use Rattle.files.specs.declared.Sought.{Sought}
 use Rattle.files.specs.declared.Sought.the-variants as sought
 use Rattle.files.specs.Table.{filesMax, numberMax, sizeMax, noEntry, held, file, tableOf, tableOk}
 use Rattle.files.specs.Find.{searchOf, findOf, sizeOf}
 use Rattle.files.specs.Change.{emptyFile, placeOf, insertOf, withoutOf, changed, createOf, removeOf}
-use Rattle.files.specs.Seek.{withinOf, whenceOf, seekOf}
+use Rattle.files.specs.Seek.{whenceOf, seekOf}
 use Rattle.files.proofs.Tests.{bool-cases, leb-cases}
 use Rattle.files.proofs.Laws.{held-length, count-ok}
-use Rattle.files.proofs.Lists.{Stands, stands, insert-at, place-le}
+use Rattle.files.proofs.Lists.{stands, insert-at}
 
 module _ (t : Table) (number : ℕ) where
   pub find-no-table : tableOk t ≡ false → findOf t number ≡ found.Refused
@@ -112,6 +111,10 @@ module _ (t : Table) (number : ℕ) where
     unfolding createOf
     create-refused e = rw (createOf, ← p, e)
 
+    pub create-accepted : r ≡ found.Missing → t .count < filesMax → createOf t number ≡ changed change.Done (tableOf (insertOf number (held t)))
+    unfolding createOf
+    create-accepted e h = rw (createOf, ← p, e, lt-ltb (t .count) filesMax h)
+
     -- put in at its place
     pub create-done : (at : ℕ) (u : Table) → r ≡ found.Missing → t .count < filesMax → at ≡ placeOf number (held t)
         → u ≡ tableOf (take at (held t) ++ (emptyFile number ∷ drop at (held t))) → changed change.Done u ≡ createOf t number
@@ -119,6 +122,10 @@ module _ (t : Table) (number : ℕ) where
     create-done at u e h a q =
         let w : u ≡ tableOf (insertOf number (held t)) = q ∙ rw a (ap tableOf (sym (insert-at number (held t)))) in
         rw (createOf, ← p, e, lt-ltb (t .count) filesMax h, w)
+
+    pub remove-accepted : (i : ℕ) → r ≡ found.At i → removeOf t number ≡ changed change.Done (tableOf (withoutOf number (held t)))
+    unfolding removeOf
+    remove-accepted i e = rw (removeOf, ← p, e)
 
     pub remove-done : (i : ℕ) (u : Table) → r ≡ found.At i → u ≡ tableOf (take i (held t) ++ drop (i + 1) (held t)) → changed change.Done u ≡ removeOf t number
     unfolding removeOf

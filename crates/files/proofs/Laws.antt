@@ -1,11 +1,11 @@
 -- What a valid table says of each of its files. Assumes nothing.
-use mathlib.Core.Path.{_≡_, refl, sym, ap, _∙_}
-use mathlib.Core.Bool.{Bool, true, false, _&&_, and-false}
+use mathlib.Core.Path.{_≡_, refl}
+use mathlib.Core.Bool.{true, false, _&&_, and-false}
 use mathlib.Core.List.{List, [], _∷_}
 use Prim.Native.Nat.{ℕ, zero, suc, _+_, _≤_, _<_}
 use native.Mathlib.Omega.{arith}
 use native.Mathlib.Numerals.{add-one}
-use lib.ListN.{length, take, getD}
+use lib.ListN.{length, getD}
 use lib.Seq.{slice, slice-cons, slice-empty, getD-take, length-take-le}
 use lib.Dec.{leb, eqb}
 use borrow.Author.Tests.{leb-true, eqb-true, le-leb, lt-leb, eq-eqb, ne-eqb}
@@ -73,6 +73,10 @@ first-good least e es h = entry-good least e (both-left (entryOk least e) (files
 pub rest-ok : (least : ℕ) (e : Entry) (es : List Entry) → filesOk least (e ∷ es) ≡ true → filesOk (suc (e .number)) es ≡ true
 unfolding filesOk
 rest-ok least e es h = both-right (entryOk least e) (filesOk (suc (e .number)) es) h
+
+pub nothing-ok : (least : ℕ) → filesOk least [] ≡ true
+unfolding filesOk
+nothing-ok least = refl
 
 pub join-ok : (least : ℕ) (e : Entry) (es : List Entry) → Good least e → filesOk (suc (e .number)) es ≡ true → filesOk least (e ∷ es) ≡ true
 unfolding filesOk

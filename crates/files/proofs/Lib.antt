@@ -4,4 +4,8 @@ pub mod Laws
 pub mod Turns
 pub mod Lists
 pub mod Cases
+pub mod Others
+pub mod Kept
+pub mod Replaced
 pub mod Seeking
+pub mod Sums

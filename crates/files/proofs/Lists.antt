@@ -1,23 +1,20 @@
 -- The files of a table as a list: appending, putting one in, taking one out. Assumes nothing.
 use mathlib.Core.Path.{_≡_, refl, sym, ap, _∙_}
-use mathlib.Core.Bool.{Bool, true, false}
-use mathlib.Core.List.{List, [], _∷_, _++_, append-assoc, append-nil}
+use mathlib.Core.Bool.{true, false}
+use mathlib.Core.List.{List, [], _∷_, _++_, append-nil}
 use Prim.Native.Nat.{ℕ, zero, suc, _+_, _-_, _≤_, _<_}
 use native.Mathlib.Nat.{suc-add, zero-add}
-use native.Mathlib.Numerals.{add-one}
 use native.Mathlib.Omega.{arith}
-use lib.ListN.{length, take, drop, getD, set, replicate, length-append, length-drop}
-use lib.Seq.{slice, sets, set-append-seam, append-snoc, take-take, take-append-seam, length-take-le, length-slice}
-use lib.Dec.{ltb, eqb}
+use lib.ListN.{length, take, drop, getD, set, replicate, length-append, length-drop, length-replicate}
+use lib.Seq.{slice, sets, set-append-seam, append-snoc, take-take, take-append-seam, length-take-le}
 use Rattle.files.specs.declared.Entry.{Entry}
 use Rattle.files.specs.declared.Table.{Table}
-use Rattle.files.specs.declared.Found.{Found}
 use Rattle.files.specs.declared.Found.the-variants as found
-use Rattle.files.specs.Table.{filesMax, noEntry, held, file, tableOf, tableOk}
+use Rattle.files.specs.Table.{filesMax, noEntry, held, tableOf, filesOk, tableOk}
 use Rattle.files.specs.Find.{searchOf}
 use Rattle.files.specs.Change.{emptyFile, placeOf, insertOf, withoutOf, appendOf}
 use Rattle.files.proofs.Tests.{ltb-cases, eqb-cases}
-use Rattle.files.proofs.Laws.{slots-ok, count-ok, held-length}
+use Rattle.files.proofs.Laws.{count-ok, held-length, table-ok}
 
 -- files stored one by one over zero entries
 pub sets-pad : (es vs : List Entry) (k : ℕ) → sets (es ++ replicate (length vs + k) noEntry) (length es) vs ≡ (es ++ vs) ++ replicate k noEntry
@@ -35,6 +32,12 @@ append-table es vs h =
 -- the files of a table that was made of a list are the list
 pub held-of : (es : List Entry) → held (tableOf es) ≡ es
 held-of es = take-append-seam es (replicate (filesMax - length es) noEntry)
+
+pub of-slots : (es : List Entry) → length es ≤ filesMax → length (tableOf es .files) ≡ filesMax
+of-slots es h = simp (length-append, length-replicate) (omega arith)
+
+pub of-ok : (es : List Entry) → length es ≤ filesMax → filesOk 0 es ≡ true → tableOk (tableOf es) ≡ true
+of-ok es h ok = table-ok (tableOf es) (of-slots es h) h (rw (held-of es) ok)
 
 pub place-le : (number : ℕ) (es : List Entry) → placeOf number es ≤ length es
 unfolding placeOf

@@ -2,7 +2,7 @@
 use layout::Geometry;
 ghost use mathlib.Core.Path.{_≡_};
 ghost use mathlib.Core.Bool.{true};
-ghost use Prim.Native.Nat.{_+_, _-_, _≤_, _<_};
+ghost use Prim.Native.Nat.{_+_, _≤_, _<_};
 ghost use mathlib.Core.List.{[], _∷_, _++_};
 ghost use lib.ListN.{take, drop};
 ghost use lib.IntN.{pos, _+ℤ_};

@@ -4,9 +4,9 @@ use Prim.Native.Nat.{ℕ}
 use lib.Dec.{ltb}
 use lib.IntN.{ℤ, pos, negsuc}
 use Rattle.window.specs.declared.Lookahead.{Lookahead}
-use Rattle.window.specs.declared.Reply.{Reply}
-use Rattle.window.specs.declared.Reply.the-variants.{Done, Refused}
-use Rattle.window.specs.declared.Replied.{Replied}
+use Rattle.window.specs.declared.setup.Reply.{Reply}
+use Rattle.window.specs.declared.setup.Reply.the-variants.{Done, Refused}
+use Rattle.window.specs.declared.setup.Replied.{Replied}
 use Rattle.window.specs.Value.{freshOf, checkpointOf, droppedOf, sizesFit, validOf}
 
 abbrev pub replied : Bool → Lookahead → Lookahead → Replied

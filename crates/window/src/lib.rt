@@ -1,14 +1,12 @@
-// The window of the block allocator, a value: fresh, checkpoint, drop, search with eager move, the start of a scan, and which windows are refused.
+// The window of the block allocator, a value: checkpoint, drop, search with eager move, the start of a scan, and which windows are refused.
 pub mod map;
+pub mod setup;
 
-use layout::Geometry;
-use layout::Made;
 ghost use mathlib.Core.Path.{_≡_};
 ghost use Prim.Native.Nat.{_≤_, min};
-ghost use Rattle.window.specs.Value.{checkpointOf, droppedOf, validOf, lookaheadFits, sizesFit, Good};
+ghost use Rattle.window.specs.Value.{checkpointOf, droppedOf, validOf, lookaheadFits, Good};
 ghost use Rattle.window.specs.Search.{takeOf};
 ghost use Rattle.window.specs.Scan.{cleared};
-ghost use Rattle.window.specs.Replies.{freshReply, checkpointReply, droppedReply};
 
 // Bit o % 8 of byte o / 8 stands for block start + o modulo the block count. Of `size` offsets `next` were passed; the checkpoint count says how many
 // blocks may still be passed.
@@ -52,18 +50,6 @@ pub enum Answer {
 
 pub struct Allocated {
     pub answer: Answer,
-    pub window: Lookahead,
-}
-
-// What the calls that set a window up answer.
-pub enum Reply {
-    Done,
-    // -22.
-    Refused,
-}
-
-pub struct Replied {
-    pub answer: Reply,
     pub window: Lookahead,
 }
 
@@ -166,84 +152,4 @@ pub fn valid_window(w: Lookahead, n: u32, l: u32) -> bool
         return false;
     }
     w.ckpoint <= n
-}
-
-// Whether geometry and lookahead are right.
-pub fn valid_sizes(g: Geometry, l: u32) -> bool
-    ensures { λ r. ⌜ r ≡ sizesFit (g .«block_size») (g .«block_count») l ⌝ }
-{
-    let made = Geometry::new(g.block_size, g.block_count);
-    match made {
-        Made::Card(_) => valid_lookahead(l),
-        Made::Refused => false,
-    }
-}
-
-// A fresh window from block `start` on. Refused: the window of zeros.
-pub fn fresh(g: Geometry, l: u32, start: u32) -> Replied
-    ensures { λ r. ⌜ r ≡ freshReply (g .«block_size») (g .«block_count») l start ⌝ }
-{
-    let n = g.block_count;
-    if valid_sizes(g, l) {
-        if start < n {
-            return Replied {
-                answer: Reply::Done,
-                window: Lookahead {
-                    map: [0u8; 64],
-                    start: start,
-                    next: 0,
-                    size: 0,
-                    ckpoint: n,
-                },
-            };
-        }
-    }
-    Replied {
-        answer: Reply::Refused,
-        window: Lookahead {
-            map: [0u8; 64],
-            start: 0,
-            next: 0,
-            size: 0,
-            ckpoint: 0,
-        },
-    }
-}
-
-// The window checkpointed. Refused: the window as it came.
-pub fn checkpoint(g: Geometry, l: u32, w: Lookahead) -> Replied
-    ensures { λ r. ⌜ r ≡ checkpointReply (g .«block_size») (g .«block_count») l w ⌝ }
-{
-    let n = g.block_count;
-    if valid_sizes(g, l) {
-        if valid_window(w, n, l) {
-            return Replied {
-                answer: Reply::Done,
-                window: alloc_ckpoint(w, n),
-            };
-        }
-    }
-    Replied {
-        answer: Reply::Refused,
-        window: w,
-    }
-}
-
-// The window dropped. Refused: the window as it came.
-pub fn dropped(g: Geometry, l: u32, w: Lookahead) -> Replied
-    ensures { λ r. ⌜ r ≡ droppedReply (g .«block_size») (g .«block_count») l w ⌝ }
-{
-    let n = g.block_count;
-    if valid_sizes(g, l) {
-        if valid_window(w, n, l) {
-            return Replied {
-                answer: Reply::Done,
-                window: alloc_drop(w, n),
-            };
-        }
-    }
-    Replied {
-        answer: Reply::Refused,
-        window: w,
-    }
 }

@@ -4,7 +4,7 @@ use Rattle.layout.proofs.Served.{served}
 use Rattle.card.specs.Blocks.{pointer}
 use Rattle.ctz.specs.Visits.{visitOf}
 use Rattle.ctz.proofs.Visiting.{visitFrom, visit-damaged, visit-last, visit-more, step-answers}
-use Rattle.alloc.proofs.Files.{Goes, goes, goes-on, goes-last, goes-wrong, no-block}
+use Rattle.alloc.proofs.Files.{Goes, goes, goes-on, goes-last, goes-wrong, no-block, mark-asked}
 use borrow.Author.Needs.{needs}
 use native.Mathlib.Omega.{arith}
 use Rattle.alloc.proofs.mark_file.Statement.{statement}
@@ -46,13 +46,7 @@ enum-known-step c = search needs
 mark-requires : tie.Need-mark-requires Inv-loop μ-loop
 mark-requires c κs =
     let s = c .before .before .before .before in
-    let pre = s .before .before .before .before .before .pre in
-    record {
-      few = pre .card .few;
-      start-lt = pre .start-lt;
-      size-le = pre .size-le;
-      block-lt = visit-last _ _ _ (sym (s .visit-step .ensures) ∙ c .before .before .step .given .1) .0;
-    }
+    mark-asked (s .before .before .before .before .before .pre) (visit-last _ _ _ (sym (s .visit-step .ensures) ∙ c .before .before .step .given .1) .0)
 
 returns-3 : tie.Need-returns-3 Inv-loop μ-loop
 returns-3 c =
@@ -65,13 +59,7 @@ enum-known-step-2 c = search needs
 mark-requires-2 : tie.Need-mark-requires-2 Inv-loop μ-loop
 mark-requires-2 c κs =
     let s = c .before .before .before .before in
-    let pre = s .before .before .before .before .before .pre in
-    record {
-      few = pre .card .few;
-      start-lt = pre .start-lt;
-      size-le = pre .size-le;
-      block-lt = visit-more _ _ _ (sym (s .visit-step .ensures) ∙ c .before .before .step2 .given .1) .below;
-    }
+    mark-asked (s .before .before .before .before .before .pre) (visit-more _ _ _ (sym (s .visit-step .ensures) ∙ c .before .before .step2 .given .1) .below)
 
 loop-less : tie.Need-loop-less Inv-loop μ-loop
 loop-less c =

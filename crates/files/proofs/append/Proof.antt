@@ -1,6 +1,6 @@
 -- `files::append` meets its contract. The invariant: all the stores are those still to be made on what is there. Assumes nothing.
-use mathlib.Core.Path.{_≡_, refl, sym, ap, _∙_}
-use Prim.Native.Nat.{ℕ, _+_, _-_, _≤_}
+use mathlib.Core.Path.{_≡_, refl, _∙_}
+use Prim.Native.Nat.{_+_, _-_, _≤_}
 use native.Mathlib.Omega.{arith}
 use borrow.Author.Needs.{needs}
 use lib.ListN.{length}
@@ -9,8 +9,6 @@ use Rattle.files.specs.Table.{filesMax}
 use Rattle.files.proofs.Turns.{append-on, append-end}
 use Rattle.files.proofs.append.Statement.{statement}
 use Rattle.files.proofs.append.Tie as tie
-use Rattle.files.proofs.append.Reads as reads
-use Rattle.files.proofs.append.Lts as lts
 
 abbrev Inv-loop : tie.InvT-loop
 Inv-loop from to t v₀ n₀ i₀ v n i =

@@ -4,11 +4,6 @@ use Rattle.files.proofs.Lists.{place-count}
 use Rattle.files.proofs.Cases.{missing-table, create-exists, create-full, create-refused, create-done}
 use Rattle.files.proofs.create.Statement.{statement}
 use Rattle.files.proofs.create.Tie as tie
-use Rattle.files.proofs.create.Reads as reads
-use Rattle.files.proofs.create.Lts as lts
-use Rattle.files.proofs.find.Reads as find-reads
-use Rattle.files.proofs.place.Reads as place-reads
-use Rattle.files.proofs.with_file.Reads as with-file-reads
 
 find-requires : tie.Need-find-requires
 find-requires c κs = search needs

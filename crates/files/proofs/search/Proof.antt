@@ -1,18 +1,16 @@
 -- `files::search` meets its contract. The invariant: the search among all files is the search among those from `i` on. Assumes nothing.
-use mathlib.Core.Path.{_≡_, refl, sym, ap, _∙_}
-use Prim.Native.Nat.{ℕ, _+_, _-_, _≤_}
+use mathlib.Core.Path.{_≡_, refl, sym, _∙_}
+use Prim.Native.Nat.{_-_, _≤_}
 use native.Mathlib.Omega.{arith}
 use borrow.Author.Needs.{needs}
 use lib.ListN.{length}
-use lib.Seq.{slice, sets}
+use lib.Seq.{slice}
 use Rattle.files.specs.Table.{filesMax}
 use Rattle.files.specs.Find.{searchOf}
 use Rattle.files.proofs.Laws.{slots-ok, count-ok}
 use Rattle.files.proofs.Turns.{search-here, search-on, search-end}
 use Rattle.files.proofs.search.Statement.{statement}
 use Rattle.files.proofs.search.Tie as tie
-use Rattle.files.proofs.search.Reads as reads
-use Rattle.files.proofs.search.Lts as lts
 
 abbrev Inv-loop : tie.InvT-loop
 Inv-loop number t count i₀ i =

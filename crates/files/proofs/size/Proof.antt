@@ -4,9 +4,6 @@ use borrow.Author.Needs.{needs}
 use Rattle.files.proofs.Cases.{slot, size-at, size-missing, size-refused}
 use Rattle.files.proofs.size.Statement.{statement}
 use Rattle.files.proofs.size.Tie as tie
-use Rattle.files.proofs.size.Reads as reads
-use Rattle.files.proofs.size.Lts as lts
-use Rattle.files.proofs.find.Reads as find-reads
 
 find-requires : tie.Need-find-requires
 find-requires c κs = search needs

@@ -9,9 +9,6 @@ use Rattle.files.specs.Table.{filesMax, filesOk}
 use Rattle.files.proofs.Laws.{entry-good, files-turn, files-end, count-out, table-is}
 use Rattle.files.proofs.valid_table.Statement.{statement}
 use Rattle.files.proofs.valid_table.Tie as tie
-use Rattle.files.proofs.valid_table.Reads as reads
-use Rattle.files.proofs.valid_table.Lts as lts
-use Rattle.files.proofs.valid_entry.Reads as valid-entry-reads
 
 abbrev Inv-loop : tie.InvT-loop
 Inv-loop t count least₀ i₀ least i =

@@ -1,0 +1,138 @@
+-- What a growth tells, on any card and list, damaged ones too: the window stays valid; a block that it answers is below N, with room
+-- in it, and the checkpoint count fell. Assumes nothing.
+use mathlib.Core.Path.{_≡_, refl}
+use mathlib.Core.Bool.{Bool, true, false}
+use mathlib.Core.List.{List}
+use Prim.Native.Nat.{ℕ, zero, suc, _*_, _≤_, _<_}
+use native.Mathlib.Omega.{arith}
+use lib.Dec.{ltb, eqb}
+use borrow.Author.Tests.{ltb-true, ltb-false, eqb-true, eqb-false}
+use Rattle.layout.specs.Layout.{pointers, indexAt, offsetAt}
+use Rattle.layout.specs.Place.{Sized}
+use Rattle.layout.proofs.Served.{wide}
+use Rattle.span.specs.Words.{bytes32}
+use Rattle.card.specs.Blocks.{pointer}
+use Rattle.device.specs.Device.{stored, wiped, refusesErase}
+use Rattle.files.specs.declared.Table.{Table}
+use Rattle.files.specs.Table.{sizeMax}
+use Rattle.window.specs.declared.Lookahead.{Lookahead}
+use Rattle.window.specs.declared.Answer.{Answer}
+use Rattle.window.specs.declared.Answer.the-variants as answer
+use Rattle.window.specs.declared.Allocated.{Allocated}
+use Rattle.window.specs.Value.{Valid}
+use Rattle.window.specs.Allocate.{allocOf}
+use Rattle.alloc.specs.Visits.{seenIn}
+use Rattle.grow.specs.declared.Growth.{Growth}
+use Rattle.grow.specs.declared.Growth.the-variants.{Grown, Full, Damaged}
+use Rattle.grow.specs.Supply.{Block}
+use Rattle.grow.specs.Grow.{GrowOut, grow-out, pointersOf, linkOf, spoils, growOf}
+use Rattle.grow.specs.Extend.{windowAlloc, extendIn, Extending}
+use Rattle.grow.proofs.Links.{link-empty, link-damaged, link-copied, link-pointers, link-rest, used-fits, next-room}
+use Rattle.grow.proofs.Turns.{grow-none, grow-bad, grow-kept, grow-spoiled, grow-linked}
+use Rattle.grow.proofs.Takes.{Outcome, allocated, took-block, took-none, took-bad, took-refused}
+
+-- the ways of an answer that a link gives for block k: made, with room in the block, or -84
+pub data Ends (B k : ℕ) : Growth → Type 0 where
+  made : {off : ℕ} → off < B → Ends B k (Grown k off)
+  broken : Ends B k Damaged
+
+pointers-ends : {W : Type 0} (m B N k off x cur : ℕ) (img : List ℕ) (w : W) → off < B → Ends B k (pointersOf m B N k off x cur img w .answer)
+unfolding pointersOf
+pointers-ends zero B N k off x cur img w h = made h
+pointers-ends (suc m) B N k off x cur img w h =
+    go (ltb cur N) refl (pointers-ends m B N k off (suc x) (pointer (stored B k (4 * x) (bytes32 cur) img) B cur x) (stored B k (4 * x) (bytes32 cur) img) w h)
+  where
+    go : (t : Bool) → ltb cur N ≡ t
+        → Ends B k (pointersOf m B N k off (suc x) (pointer (stored B k (4 * x) (bytes32 cur) img) B cur x) (stored B k (4 * x) (bytes32 cur) img) w .answer)
+        → Ends B k (pointersOf (suc m) B N k off x cur img w .answer)
+    go true e ih = rw (pointersOf, e) ih
+    go false e ih = rw (pointersOf, e) broken
+
+link-ends : {W : Type 0} (B N k head s : ℕ) (img : List ℕ) (w : W) → Sized B → s ≤ sizeMax → Ends B k (linkOf B N k head s img w .answer)
+link-ends B N k head zero img w z h = rw (link-empty B N k head img w) (made {off = 0} (omega (arith, wide z)))
+link-ends B N k head (suc p) img w z h = go (ltb head N) refl (eqb (suc (offsetAt B p)) B) refl
+  where
+    go : (t : Bool) → ltb head N ≡ t → (f : Bool) → eqb (suc (offsetAt B p)) B ≡ f → Ends B k (linkOf B N k head (suc p) img w .answer)
+    go false e f g = rw (link-damaged B N k head img w p (ltb-false head N e)) broken
+    go true e true g =
+        let u = eqb-true (suc (offsetAt B p)) B g in
+        rw (link-pointers B N k head img w p (ltb-true head N e) u)
+        (pointers-ends (pointers (suc (indexAt B p))) B N k (4 * pointers (suc (indexAt B p))) 0 head img w (next-room z p h u))
+    go true e false g =
+        let u = eqb-false (suc (offsetAt B p)) B g in
+        rw (link-copied B N k head img w p (ltb-true head N e) u) (made {off = suc (offsetAt B p)} (omega (arith, used-fits z p h, u)))
+
+-- what a growth from that count leaves and tells
+pub record Grows (B N l count : ℕ) (o : GrowOut Lookahead) : Type 0 where
+  pub valid : Valid (o .rest) N l
+  pub below : (k off : ℕ) → o .answer ≡ Grown k off → k < N
+  pub room : (k off : ℕ) → o .answer ≡ Grown k off → off < B
+  pub falls : (k off : ℕ) → o .answer ≡ Grown k off → o .rest .ckpoint < count
+
+not-full : (k off : ℕ) → Full ≡ Grown k off → ⊥
+not-full k off e = let z : _≡_ {A = ℕ} 0 1 = cc in omega arith
+
+not-damaged : (k off : ℕ) → Damaged ≡ Grown k off → ⊥
+not-damaged k off e = let z : _≡_ {A = ℕ} 0 1 = cc in omega arith
+
+nothing : {B N l count : ℕ} {o : GrowOut Lookahead} → Valid (o .rest) N l → ((k off : ℕ) → o .answer ≡ Grown k off → ⊥) → Grows B N l count o
+nothing g f =
+    record { valid = g; below = λ k off e. absurd (f k off e); room = λ k off e. absurd (f k off e); falls = λ k off e. absurd (f k off e) }
+
+fewer : {B N l c d : ℕ} {o : GrowOut Lookahead} → d ≤ c → Grows B N l d o → Grows B N l c o
+fewer h g =
+    record { valid = g .valid; below = g .below; room = g .room; falls = λ k off e. omega (arith, g .falls k off e) }
+
+-- a link that ended so, after an allocation
+linked : {B N l count k : ℕ} {a : Growth} (img : List ℕ) (v : Lookahead) → Valid v N l → k < N → v .ckpoint < count → Ends B k a
+    → Grows B N l count (grow-out a img v)
+linked img v g h f broken = nothing g not-damaged
+linked {B} {k = k} img v g h f (made {off} r) =
+    record {
+      valid = g;
+      below = λ j o e. let i : k ≡ j = cc in omega arith;
+      room = λ j o e. let i : off ≡ o = cc in omega arith;
+      falls = λ j o e. f;
+    }
+
+module _ (B N l : ℕ) (health : List ℕ) (t : Table) (head s : ℕ) (z : Sized B) (fits : s ≤ sizeMax) where
+  -- of every growth with that many tries
+  abbrev Tries : ℕ → Type 0
+  Tries m = (w : Lookahead) (img : List ℕ) → Valid w N l
+      → Grows B N l (w .ckpoint) (growOf (windowAlloc B N l t) m w health B N head s img)
+
+  module _ (m : ℕ) (again : Tries m) (w : Lookahead) (img : List ℕ) where
+    tried : (k : ℕ) (v : Lookahead) → windowAlloc B N l t w img ≡ Block k v → Valid v N l → k < N → v .ckpoint < w .ckpoint
+        → (x : Bool) → refusesErase health k ≡ x → (y : Bool) → spoils health N k head s ≡ y
+        → Grows B N l (w .ckpoint) (growOf (windowAlloc B N l t) (suc m) w health B N head s img)
+    tried k v e g b f true p y q =
+        rw (grow-kept (windowAlloc B N l t) m w v health B N head s img k e p) (fewer (omega arith) (again v img g))
+    tried k v e g b f false p true q =
+        rw (grow-spoiled (windowAlloc B N l t) m w v health B N head s img k e p q) (fewer (omega arith) (again v (wiped B k img) g))
+    tried k v e g b f false p false q =
+        rw (grow-linked (windowAlloc B N l t) m w v health B N head s img k e p q, link-rest B N k head s (wiped B k img) v (tt {0}))
+        (linked _ v g b f (link-ends B N k head s (wiped B k img) (tt {0}) z fits))
+
+    answered : (a : Allocated) → a ≡ allocOf N l (seenIn B N img t) w → Outcome N l (w .ckpoint) a → (q : Answer) → a .answer ≡ q
+        → Grows B N l (w .ckpoint) (growOf (windowAlloc B N l t) (suc m) w health B N head s img)
+    answered a p o (answer.Block k) e =
+        tried k (a .window) (took-block B N l t w img p e) (o .valid) (o .below k e) (o .falls k e) (refusesErase health k) refl (spoils health N k head s) refl
+    answered a p o answer.NoSpace e =
+        rw (grow-none (windowAlloc B N l t) m w (a .window) health B N head s img (took-none B N l t w img p e)) (nothing (o .valid) not-full)
+    answered a p o answer.Damaged e =
+        rw (grow-bad (windowAlloc B N l t) m w (a .window) health B N head s img (took-bad B N l t w img p e)) (nothing (o .valid) not-damaged)
+    answered a p o answer.Refused e =
+        rw (grow-bad (windowAlloc B N l t) m w (a .window) health B N head s img (took-refused B N l t w img p e)) (nothing (o .valid) not-damaged)
+
+  tries : (m : ℕ) → Tries m
+  unfolding growOf
+  tries zero = λ w img g. nothing g not-full
+  tries (suc m) = λ w img g.
+      answered m (tries m) w img (allocOf N l (seenIn B N img t) w) refl (allocated N l (seenIn B N img t) w g) (allocOf N l (seenIn B N img t) w .answer) refl
+
+-- one growth behind the tests
+pub extend-grows : {B N l : ℕ} {health : List ℕ} {t : Table} {w : Lookahead} {s : ℕ} {img : List ℕ} (head : ℕ) → Extending B N l img health t w s
+    → Grows B N l (w .ckpoint) (extendIn B N l health t w head s img)
+unfolding extendIn
+extend-grows {B} {N} {l} {health} {t} {w} {s} {img} head x =
+    tries B N l health t head s (x .ready .card .sized) (x .fits) (suc (w .ckpoint)) w img (x .ready .window)

@@ -1,0 +1,100 @@
+-- The pointers of a new block, turn by turn: over any allocator's state, and as the loop of `put_pointers` meets them.
+use mathlib.Core.Path.{_≡_, refl, sym, ap, _∙_}
+use mathlib.Core.Bool.{Bool, true, false}
+use mathlib.Core.List.{List}
+use Prim.Native.Nat.{ℕ, zero, suc, _+_, _*_, _-_, _≤_, _<_}
+use native.Mathlib.Numerals.{add-one}
+use native.Mathlib.Omega.{arith}
+use lib.Dec.{ltb}
+use borrow.Author.Tests.{lt-ltb, le-ltb}
+use Rattle.span.specs.Words.{bytes32}
+use Rattle.card.specs.Blocks.{pointer}
+use Rattle.device.specs.declared.Programmed.{Programmed}
+use Rattle.device.specs.declared.Programmed.the-variants.{Stored, Refused}
+use Rattle.device.specs.Device.{stored, programOf, ProgramGives}
+use Rattle.device.proofs.Steps.{told-stored, told-refused}
+use Rattle.grow.specs.declared.Growth.the-variants.{Grown, Damaged}
+use Rattle.grow.specs.declared.Linked.the-variants.{Done, Spoiled}
+use Rattle.grow.specs.Grow.{grow-out, pointersOf}
+use Rattle.grow.specs.Attempt.{putOf}
+use Rattle.grow.proofs.Spoils.{spoils-stored, spoils-empty, spoils-damaged, spoils-refused}
+
+module _ {W : Type 0} (m B N k off x cur : ℕ) (img : List ℕ) (w : W) where
+  -- all pointers are there
+  pub pointers-done : m ≡ 0 → pointersOf m B N k off x cur img w ≡ grow-out (Grown k off) img w
+  unfolding pointersOf
+  pointers-done e = rw e
+
+  -- a number that is not below N is not programmed
+  pub pointers-damaged : (r : ℕ) → m ≡ suc r → N ≤ cur → pointersOf m B N k off x cur img w ≡ grow-out Damaged img w
+  unfolding pointersOf
+  pointers-damaged r e h = rw (e, pointersOf, le-ltb cur N h)
+
+  -- a pointer is programmed, and the next number read
+  pub pointers-turn : (r cur′ : ℕ) (img′ : List ℕ) → m ≡ suc r → cur < N → img′ ≡ stored B k (4 * x) (bytes32 cur) img
+      → cur′ ≡ pointer img′ B cur x → pointersOf m B N k off x cur img w ≡ pointersOf r B N k off (suc x) cur′ img′ w
+  unfolding pointersOf
+  pointers-turn r cur′ img′ e h p q = rw (e, pointersOf, lt-ltb cur N h, q, p)
+
+-- the allocator's state is handed on as it came, and changes nothing
+pub pointers-rest : {W U : Type 0} (m B N k off x cur : ℕ) (img : List ℕ) (w : W) (v : U)
+    → pointersOf m B N k off x cur img w ≡ grow-out (pointersOf m B N k off x cur img v .answer) (pointersOf m B N k off x cur img v .image) w
+unfolding pointersOf
+pointers-rest zero B N k off x cur img w v = refl
+pointers-rest (suc m) B N k off x cur img w v =
+    go (ltb cur N) refl
+    (pointers-rest m B N k off (suc x) (pointer (stored B k (4 * x) (bytes32 cur) img) B cur x) (stored B k (4 * x) (bytes32 cur) img) w v)
+  where
+    go : (t : Bool) → ltb cur N ≡ t
+        → pointersOf m B N k off (suc x) (pointer (stored B k (4 * x) (bytes32 cur) img) B cur x) (stored B k (4 * x) (bytes32 cur) img) w
+        ≡ grow-out
+        (pointersOf m B N k off (suc x) (pointer (stored B k (4 * x) (bytes32 cur) img) B cur x) (stored B k (4 * x) (bytes32 cur) img) v .answer)
+        (pointersOf m B N k off (suc x) (pointer (stored B k (4 * x) (bytes32 cur) img) B cur x) (stored B k (4 * x) (bytes32 cur) img) v .image)
+        w
+        → pointersOf (suc m) B N k off x cur img w
+        ≡ grow-out (pointersOf (suc m) B N k off x cur img v .answer) (pointersOf (suc m) B N k off x cur img v .image) w
+    go true e ih = rw (pointersOf, e) ih
+    go false e ih = rw (pointersOf, e)
+
+-- ---- as the loop meets them
+
+pub put-start : (health : List ℕ) (B N k off count cur : ℕ) (img : List ℕ)
+    → putOf health B N k off count 0 cur img ≡ putOf health B N k off (count - 0) 0 cur img
+put-start health B N k off count cur img = ap (λ (m : ℕ). putOf health B N k off m 0 cur img) (omega arith)
+
+module _ (health : List ℕ) (B N k off count x cur : ℕ) (img : List ℕ) where
+  pub put-done : count ≤ x → putOf health B N k off (count - x) x cur img ≡ record { answer = Done (Grown k off); image = img }
+  unfolding putOf
+  put-done h =
+      let e : count - x ≡ 0 = omega arith in
+      rw (putOf, spoils-empty health N k cur (count - x) e, pointers-done (count - x) B N k off x cur img (tt {0}) e)
+
+  pub put-damaged : x < count → N ≤ cur → putOf health B N k off (count - x) x cur img ≡ record { answer = Done Damaged; image = img }
+  unfolding putOf
+  put-damaged l h =
+      let e : count - x ≡ suc (count - (x + 1)) = omega arith in
+      rw (putOf, spoils-damaged health N k cur (count - x) h, pointers-damaged (count - x) B N k off x cur img (tt {0}) _ e h)
+
+  -- a program was asked: r is the device's answer, img′ the image that it left
+  module _ {r : Programmed} {img′ : List ℕ} (l : x < count) (h : cur < N)
+      (g : ProgramGives (programOf health B k (4 * x) (bytes32 cur) img) r img′) where
+    pub put-spoiled : r ≡ Refused → putOf health B N k off (count - x) x cur img ≡ record { answer = Spoiled; image = img′ }
+    unfolding putOf
+    put-spoiled e =
+        let t = told-refused health B k (4 * x) (bytes32 cur) img (sym (g .answer) ∙ e) in
+        let p : 0 < count - x = omega arith in
+        rw (putOf, spoils-refused health N k cur (count - x) (t .0) p h, g .image, t .1)
+
+    pub put-turn : (cur′ : ℕ) → r ≡ Stored → cur′ ≡ pointer img′ B cur x
+        → putOf health B N k off (count - x) x cur img ≡ putOf health B N k off (count - (x + 1)) (x + 1) cur′ img′
+    unfolding putOf
+    put-turn cur′ e q =
+        let t = told-stored health B k (4 * x) (bytes32 cur) img (sym (g .answer) ∙ e) in
+        let s : count - x ≡ suc (count - (x + 1)) = omega arith in
+        rw (
+          putOf,
+          spoils-stored health N k cur (count - x) (t .0),
+          spoils-stored health N k cur′ (count - (x + 1)) (t .0),
+          pointers-turn (count - x) B N k off x cur img (tt {0}) (count - (x + 1)) cur′ img′ s h (g .image ∙ t .1) q,
+          add-one x,
+        )

@@ -1,0 +1,5 @@
+-- The definitions that the contracts of `grow` cite.
+pub mod Supply
+pub mod Grow
+pub mod Attempt
+pub mod Extend

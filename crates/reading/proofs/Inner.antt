@@ -1,0 +1,119 @@
+-- What read and stretch of one list answer, case by case. Assumes nothing.
+use mathlib.Core.Path.{_≡_, refl, sym, ap, _∙_, subst}
+use mathlib.Core.Bool.{Bool, true, false}
+use mathlib.Core.List.{List, []}
+use Prim.Native.Nat.{ℕ, _+_, _-_, _*_, _≤_, _<_, min}
+use native.Mathlib.Nat.{min-le-right}
+use native.Mathlib.Omega.{arith}
+use borrow.Author.Tests.{lt-ltb, ltb-true, ltb-false}
+use lib.Dec.{ltb}
+use lib.ListN.{length}
+use lib.Seq.{sets}
+use Rattle.ctz.specs.Lookup.{walkTo}
+use Rattle.ctz.specs.declared.Found.{Found}
+use Rattle.ctz.specs.declared.Found.the-variants as found
+use Rattle.plain.specs.Reading.{Part, partOf, stretchIn, Got, Bytes, gather, readIn}
+use Rattle.plain.proofs.Reading.{stretch-past}
+use Rattle.reading.specs.Bounds.{Listed, Ranged}
+use Rattle.reading.specs.Codes.{placeOf, placedLength}
+use Rattle.reading.specs.Calls.{given, clean, bytesOf, placedOf}
+use Rattle.reading.specs.declared.Reading.the-variants as reading
+use Rattle.reading.specs.declared.Placed.the-variants as placed
+use Rattle.reading.proofs.Gathers.{all-none, Gave, copied, damaged, gave, offset-below, step}
+
+-- a position below the size has a run of bytes to the end behind it
+pub ranged : {B N size len : ℕ} (p n : ℕ) → Listed B N size len → p + n ≤ size → Ranged B N size p n len
+ranged p n l h = record { card = l .card; most = l .most; inside = h }
+
+-- ---- read
+
+gives-copied : (n : ℕ) {g : Got} (buffer after : List ℕ) → Gave n g → clean g ≡ true → after ≡ sets buffer 0 (bytesOf g)
+    → record { answer = reading.Bytes n; buffer = after } ≡ given buffer g
+gives-copied n buffer after (copied bs e) c a = rw (a, sym e) refl
+gives-copied n buffer after damaged c a = let z : _≡_ {A = ℕ} 0 1 = cc in absurd (omega arith)
+
+gives-damaged : (n : ℕ) {g : Got} (buffer : List ℕ) → Gave n g → clean g ≡ false → record { answer = reading.Damaged; buffer = buffer } ≡ given buffer g
+gives-damaged n buffer (copied bs e) c = let z : _≡_ {A = ℕ} 0 1 = cc in absurd (omega arith)
+gives-damaged n buffer damaged c = refl
+
+module _ (image : List ℕ) (B N head size p : ℕ) (buffer : List ℕ) where
+  pub read-past : size ≤ p → record { answer = reading.Bytes 0; buffer = buffer } ≡ given buffer (readIn image B N head size p (length buffer))
+  unfolding readIn
+  read-past h =
+      let r = min-le-right (length buffer) (size - p) in
+      sym (ap (given buffer) (all-none image B N head size p (min (length buffer) (size - p)) (omega arith)))
+
+  module _ (n : ℕ) (q : n ≡ min (length buffer) (size - p)) (r : Ranged B N size p n (length image)) where
+    read-is : readIn image B N head size p (length buffer) ≡ gather n image B N head size p n
+    unfolding readIn
+    read-is = rw (readIn, sym q) refl
+
+    pub read-damaged : clean (gather n image B N head size p n) ≡ false
+        → record { answer = reading.Damaged; buffer = buffer } ≡ given buffer (readIn image B N head size p (length buffer))
+    read-damaged c = gives-damaged n buffer (gave image head p n r) c ∙ sym (ap (given buffer) read-is)
+
+    pub read-copied : (after : List ℕ) → clean (gather n image B N head size p n) ≡ true
+        → after ≡ sets buffer 0 (bytesOf (gather n image B N head size p n))
+        → record { answer = reading.Bytes n; buffer = after } ≡ given buffer (readIn image B N head size p (length buffer))
+    read-copied after c a = gives-copied n buffer after (gave image head p n r) c a ∙ sym (ap (given buffer) read-is)
+
+-- a read behind the tests gives -84, or exactly min(room, size - position) bytes
+pub readIn-gave : (image : List ℕ) (head : ℕ) {B N size : ℕ} (p room : ℕ) → Listed B N size (length image)
+    → Gave (min room (size - p)) (readIn image B N head size p room)
+unfolding readIn
+readIn-gave image head {B} {N} {size} p room l = go (ltb p size) refl
+  where
+    go : (t : Bool) → ltb p size ≡ t → Gave (min room (size - p)) (gather (min room (size - p)) image B N head size p (min room (size - p)))
+    go true t =
+        let r = min-le-right room (size - p) in
+        gave image head p (min room (size - p)) (ranged p (min room (size - p)) l (omega (arith, ltb-true p size t)))
+    go false t =
+        let r = min-le-right room (size - p) in
+        let z : min room (size - p) ≤ 0 = omega (arith, ltb-false p size t) in
+        subst (Gave (min room (size - p))) (sym (all-none image B N head size p (min room (size - p)) z)) (copied [] (omega arith))
+
+-- ---- stretch
+
+pub place-past : (image : List ℕ) (B N head size p : ℕ) → size ≤ p → placed.Part 0 0 ≡ placedOf (stretchIn image B N head size p)
+place-past image B N head size p h = sym (ap placedOf (stretch-past image B N head size p h))
+
+pub place-found : (image : List ℕ) (B N head size p : ℕ) (w : Found) → p < size → walkTo image B N head size p ≡ w
+    → placedOf (partOf B size p w) ≡ placedOf (stretchIn image B N head size p)
+unfolding stretchIn
+place-found image B N head size p w h e = rw (stretchIn, lt-ltb p size h, e) refl
+
+pub place-part : (image : List ℕ) (B N head size p : ℕ) {k off hops : ℕ} (m : ℕ) → p < size → walkTo image B N head size p ≡ found.At k off hops
+    → m ≡ min (B - off) (size - p) → placed.Part (k * B + off) m ≡ placedOf (stretchIn image B N head size p)
+place-part image B N head size p {k} {off} {hops} m h e q =
+    ap (placed.Part (k * B + off)) q ∙ place-found image B N head size p (found.At k off hops) h e
+
+-- the place of a position that is found lies in the image
+pub record Lies (B size p k off : ℕ) : Type 0 where
+  pub offset : off < B
+  pub block : k * B + B ≤ 16777216
+
+pub lies : (image : List ℕ) (head : ℕ) {B N size : ℕ} (p : ℕ) {k off hops : ℕ} → Listed B N size (length image) → p < size
+    → walkTo image B N head size p ≡ found.At k off hops → Lies B size p k off
+lies image head {B} {N} {size} p {k} {off} l h e =
+    let r = ranged p (size - p) l (omega arith) in
+    let some : 0 < size - p = omega arith in
+    let s = step image head r some (min (B - off) (size - p)) e refl in
+    record {
+      offset = offset-below image head r some e;
+      block = omega (arith, s .inside, l .card .whole, l .card .long);
+    }
+
+-- a stretch lies in the image
+pub stretch-inside : (image : List ℕ) (head : ℕ) {B N size : ℕ} (p : ℕ) → Listed B N size (length image)
+    → placeOf (placedOf (stretchIn image B N head size p)) + placedLength (placedOf (stretchIn image B N head size p)) ≤ length image
+stretch-inside image head {B} {N} {size} p l = go (ltb p size) refl (walkTo image B N head size p) refl
+  where
+    go : (t : Bool) → ltb p size ≡ t → (w : Found) → walkTo image B N head size p ≡ w
+        → placeOf (placedOf (stretchIn image B N head size p)) + placedLength (placedOf (stretchIn image B N head size p)) ≤ length image
+    go false t w e = rw (sym (place-past image B N head size p (ltb-false p size t))) (omega arith)
+    go true t (found.At k off hops) e =
+        let h = ltb-true p size t in
+        let s = step image head (ranged p (size - p) l (omega arith)) (omega arith) (min (B - off) (size - p)) e refl in
+        rw (sym (place-found image B N head size p (found.At k off hops) h e)) (omega (arith, s .in-block, s .inside))
+    go true t found.Damaged e = rw (sym (place-found image B N head size p found.Damaged (ltb-true p size t) e)) (omega arith)
+    go true t found.Refused e = rw (sym (place-found image B N head size p found.Refused (ltb-true p size t) e)) (omega arith)

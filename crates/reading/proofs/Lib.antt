@@ -1,0 +1,7 @@
+-- The laws of reading.
+pub mod Gathers
+pub mod Inner
+pub mod Asks
+pub mod Results
+pub mod Outcomes
+pub mod Plain

@@ -1,0 +1,126 @@
+// The file table: create, remove, size, seek.
+use files::Change;
+use files::Changed;
+use files::Sized;
+use files::Sought;
+use files::Table;
+ghost use mathlib.Core.Path.{_≡_};
+ghost use Rattle.files.specs.Find.{sizeOf};
+ghost use Rattle.files.specs.Change.{createOf, removeOf};
+ghost use Rattle.files.specs.Seek.{seekOf};
+ghost use Rattle.tidmaruls.specs.Tables.{changedTold, sizedTold, soughtTold};
+
+// A table handed back; on a refusal as it came.
+#[repr(C)]
+pub struct TidTable {
+    pub code: i32,
+    pub table: Table,
+}
+
+fn changed_told(c: Changed) -> TidTable
+    ensures { λ r. ⌜ r ≡ changedTold c ⌝ }
+{
+    let answer = c.answer;
+    let table = c.table;
+    match answer {
+        Change::Done => TidTable {
+            code: 0,
+            table: table,
+        },
+        Change::Missing => TidTable {
+            code: -2,
+            table: table,
+        },
+        Change::Full => TidTable {
+            code: -12,
+            table: table,
+        },
+        Change::Exists => TidTable {
+            code: -17,
+            table: table,
+        },
+        Change::Refused => TidTable {
+            code: -22,
+            table: table,
+        },
+    }
+}
+
+// The table with one more, empty file.
+#[no_mangle]
+pub extern "C" fn tid_create(t: Table, number: u32) -> TidTable
+    ensures { λ r. ⌜ r ≡ changedTold (createOf t number) ⌝ }
+{
+    changed_told(files::create(t, number))
+}
+
+// The table without a file.
+#[no_mangle]
+pub extern "C" fn tid_remove(t: Table, number: u32) -> TidTable
+    ensures { λ r. ⌜ r ≡ changedTold (removeOf t number) ⌝ }
+{
+    changed_told(files::remove(t, number))
+}
+
+#[repr(C)]
+pub struct TidSize {
+    pub code: i32,
+    pub size: u32,
+}
+
+fn sized_told(s: Sized) -> TidSize
+    ensures { λ r. ⌜ r ≡ sizedTold s ⌝ }
+{
+    match s {
+        Sized::Bytes(n) => TidSize { code: 0, size: n },
+        Sized::Missing => TidSize { code: -2, size: 0 },
+        Sized::Refused => TidSize { code: -22, size: 0 },
+    }
+}
+
+// The size of a file.
+#[no_mangle]
+pub extern "C" fn tid_size(t: Table, number: u32) -> TidSize
+    ensures { λ r. ⌜ r ≡ sizedTold (sizeOf t number) ⌝ }
+{
+    sized_told(files::size(t, number))
+}
+
+#[repr(C)]
+pub struct TidSeek {
+    pub code: i32,
+    pub position: u32,
+}
+
+fn sought_told(s: Sought) -> TidSeek
+    ensures { λ r. ⌜ r ≡ soughtTold s ⌝ }
+{
+    match s {
+        Sought::At(n) => TidSeek {
+            code: 0,
+            position: n,
+        },
+        Sought::Missing => TidSeek {
+            code: -2,
+            position: 0,
+        },
+        Sought::Refused => TidSeek {
+            code: -22,
+            position: 0,
+        },
+    }
+}
+
+// A new position in a file, from a held one.
+#[no_mangle]
+pub extern "C" fn tid_seek(
+    t: Table,
+    number: u32,
+    position: u32,
+    offset: i32,
+    whence: i32,
+) -> TidSeek
+    ensures { λ r. ⌜ r ≡ soughtTold (seekOf t number position offset whence) ⌝ }
+{
+    sought_told(files::seek(t, number, position, offset, whence))
+}
