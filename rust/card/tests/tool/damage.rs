@@ -103,7 +103,11 @@ fn a_shared_block() {
 fn a_head_off_the_card() {
     let desk = card("head");
     desk.write("unit/table", &[1, 3, 0xE8, 7, 20]);
-    fault(&desk, "check unit", "at index 8, pointer 0. The table's entry should name the block of index 8, but reads 20");
+    fault(
+        &desk,
+        "check unit",
+        "at index 8, pointer 0. The table's entry should name the block of index 8, but reads 20",
+    );
 }
 
 /// Each file of the card cut, lengthened, spoiled or gone.
