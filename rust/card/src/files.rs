@@ -7,6 +7,7 @@ use crate::map::Owners;
 use crate::output;
 use crate::terminal::Progress;
 use crate::trouble::Trouble;
+use std::fs::File;
 use std::io::{self, IsTerminal, Read};
 use std::path::Path;
 use tidmaruls::{Error, Geometry, Table, View, FILES, NUMBER_MAX};
@@ -102,26 +103,28 @@ pub fn ls(arguments: &Arguments) -> Result<bool, Trouble> {
     Ok(false)
 }
 
-/// The bytes to put: of a file, or of standard input.
-fn source(name: &str) -> Result<Vec<u8>, Trouble> {
-    if name != "-" {
-        let unread = |error| {
-            Trouble::io(format!(
-                "{name} cannot be read ({error}): name a file that can."
-            ))
-        };
-        return std::fs::read(name).map_err(unread);
-    }
-    if io::stdin().is_terminal() {
-        eprintln!("card: reading from the terminal; end with Ctrl-D.");
-    }
-    let mut bytes = Vec::new();
+/// The bytes to put: of a file, or of standard input; more than the card has bytes never fit.
+fn source(name: &str, folder: &Folder) -> Result<Vec<u8>, Trouble> {
     let unread = |error| {
         Trouble::io(format!(
-            "Standard input cannot be read ({error}): name a file instead."
+            "{name} cannot be read ({error}): name a file that can."
         ))
     };
-    io::stdin().lock().read_to_end(&mut bytes).map_err(unread)?;
+    let mut from: Box<dyn Read> = match name {
+        "-" => Box::new(io::stdin().lock()),
+        _ => Box::new(File::open(name).map_err(unread)?),
+    };
+    if name == "-" && io::stdin().is_terminal() {
+        eprintln!("card: reading from the terminal; end with Ctrl-D.");
+    }
+    let (most, mut bytes) = (folder.geometry.image_length(), Vec::new());
+    let mut from = Read::take(&mut from, most as u64 + 1);
+    from.read_to_end(&mut bytes).map_err(unread)?;
+    if bytes.len() > most {
+        return Err(Trouble::full(format!(
+            "{name} has more bytes than the whole card, which has {most}: put less, or make a larger card. Nothing was changed."
+        )));
+    }
     Ok(bytes)
 }
 
@@ -215,7 +218,7 @@ pub fn put(arguments: &Arguments) -> Result<bool, Trouble> {
         ));
     }
     let mut folder = Folder::open(arguments.folder())?;
-    let bytes = source(arguments.word(2).unwrap_or_default())?;
+    let bytes = source(arguments.word(2).unwrap_or_default(), &folder)?;
     let there = folder.table.get(number);
     if there.is_none() {
         let created = folder.table.create(number);

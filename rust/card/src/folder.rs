@@ -5,7 +5,7 @@ use crate::trouble::Trouble;
 use std::fs::{self, File};
 use std::io::{ErrorKind, Read, Write};
 use std::path::{Path, PathBuf};
-use tidmaruls::{Card, Geometry, Table, View, Window};
+use tidmaruls::{Card, Geometry, Table, View, Window, SAVED_MAX};
 
 /// What is read at a time, and written at a time.
 const PIECE: usize = 1 << 20;
@@ -19,8 +19,8 @@ pub struct Folder {
     pub table: Table,
 }
 
-/// A file's bytes.
-fn read(path: &Path, name: &str) -> Result<Vec<u8>, Trouble> {
+/// A file's bytes, but no more than one past the most that make sense.
+fn read(path: &Path, name: &str, most: usize) -> Result<Vec<u8>, Trouble> {
     let file = path.join(name);
     let shown = file.display();
     let trouble = |error: std::io::Error| {
@@ -44,7 +44,7 @@ fn read(path: &Path, name: &str) -> Result<Vec<u8>, Trouble> {
     loop {
         let mut next = Read::take(&mut opened, PIECE as u64);
         let piece = next.read_to_end(&mut bytes).map_err(trouble)?;
-        if piece == 0 {
+        if piece == 0 || bytes.len() > most {
             return Ok(bytes);
         }
         progress.at(bytes.len() as u64);
@@ -84,7 +84,7 @@ fn parsed(text: &[u8]) -> Option<(u32, u32)> {
 }
 
 fn geometry(path: &Path) -> Result<Geometry, Trouble> {
-    let bytes = read(path, "geometry")?;
+    let bytes = read(path, "geometry", 100)?;
     let shown = path.join("geometry");
     let (block_size, block_count) = parsed(&bytes).ok_or_else(|| {
         Trouble::fault(format!(
@@ -98,9 +98,12 @@ fn geometry(path: &Path) -> Result<Geometry, Trouble> {
 
 /// A file of the card that must have so many bytes.
 fn exact(path: &Path, name: &str, needed: usize) -> Result<Vec<u8>, Trouble> {
-    let bytes = read(path, name)?;
-    let given = bytes.len();
-    if given != needed {
+    let bytes = read(path, name, needed)?;
+    if bytes.len() != needed {
+        let given = match bytes.len() {
+            given if given > needed => format!("more than {needed}"),
+            given => given.to_string(),
+        };
         return Err(Trouble::fault(format!(
             "{} has {given} bytes, but the geometry needs {needed}: it was cut, lengthened, or is another card's; bring it back from a copy.",
             path.join(name).display()
@@ -123,8 +126,8 @@ impl Folder {
         }
         let image = exact(&path, "image", geometry.image_length())?;
         let shown = path.join("table").display().to_string();
-        let table =
-            Table::load(&read(&path, "table")?).map_err(|error| Trouble::refused(&shown, error))?;
+        let table = Table::load(&read(&path, "table", SAVED_MAX)?)
+            .map_err(|error| Trouble::refused(&shown, error))?;
         Ok(Folder {
             path,
             geometry,
@@ -197,6 +200,9 @@ impl Folder {
     }
 
     /// Changes files, from a fresh window that starts at a block; the folder's own files stay until they are saved.
+    ///
+    /// No window is kept from run to run: one that is older than the table or the image could hand out a block in use,
+    /// and a fresh one finds every free block.
     pub fn change(
         &mut self,
         start: u32,

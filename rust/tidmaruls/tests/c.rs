@@ -56,6 +56,10 @@ fn store() {
 #[test]
 fn header_alone() {
     for (name, standard, language) in [("cc", "-std=c99", "c"), ("c++", "-std=c++11", "c++")] {
+        if Command::new(name).arg("--version").output().is_err() {
+            println!("header: no {name} here, not compiled as {language}");
+            continue;
+        }
         let mut command = compiler(name, standard);
         command.args(["-fsyntax-only", "-x", language]);
         command.arg(folder().join("../../include/tidmaruls.h"));

@@ -124,7 +124,7 @@ fn files_that_do_not_fit() {
         (
             "health",
             &[0; 21],
-            "unit/health has 21 bytes, but the geometry needs 20",
+            "unit/health has more than 20 bytes, but the geometry needs 20",
         ),
         ("health", &[3; 20], "unit/health says 3 of block 0"),
         ("table", &[], "unit/table: These bytes are no saved table"),
