@@ -26,4 +26,5 @@ fn main() {
     }
     println!("cargo::rustc-link-search=native={}", folder.display());
     println!("cargo::rustc-link-lib=static=tidmaruls");
+    println!("cargo::rustc-env=TIDMARULS_ARCHIVE={}", library.display());
 }

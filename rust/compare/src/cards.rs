@@ -1,7 +1,7 @@
 //! Cards to compare on: lists laid out by hand or grown by the oracle, noise in the data, damage.
 
 use crate::{layout, Random};
-use tidmaruls::{Card, Entry, Geometry, Table, Window};
+use tidmaruls::raw::{Card, Entry, Geometry, Table, Window};
 
 /// The block sizes that lists are compared at.
 pub const BLOCK_SIZES: [u32; 5] = [128, 132, 512, 4096, 65536];
@@ -20,7 +20,7 @@ impl List {
     };
 
     pub fn head(&self) -> u32 {
-        self.blocks.last().copied().unwrap_or(tidmaruls::NULL)
+        self.blocks.last().copied().unwrap_or(tidmaruls::raw::NULL)
     }
 }
 
@@ -132,7 +132,7 @@ pub fn damage(image: &mut [u8], geometry: Geometry, list: &List, random: &mut Ra
         }
         let (count, any) = (geometry.block_count, random.number());
         let number = match random.below(4) {
-            0 => random.pick(&[count, count + 1, tidmaruls::NULL, any]),
+            0 => random.pick(&[count, count + 1, tidmaruls::raw::NULL, any]),
             1 => list.blocks[random.below(list.blocks.len() as u32) as usize],
             _ => random.below(count),
         };

@@ -28,7 +28,7 @@ pub fn grow(oracle: &mut Oracle, size: u32, random: &mut Random) -> List {
 }
 
 /// Whether two windows agree: all numbers, and the map from `next` on within the lookahead.
-pub fn same_window(ours: &tidmaruls::Window, theirs: &oracle::Window, lookahead: u32) -> bool {
+pub fn same_window(ours: &tidmaruls::raw::Window, theirs: &oracle::Window, lookahead: u32) -> bool {
     let bit = |map: &[u8; 64], place: u32| map[place as usize / 8] >> (place % 8) & 1;
     (ours.start, ours.next, ours.size, ours.ckpoint)
         == (theirs.start, theirs.next, theirs.size, theirs.ckpoint)

@@ -2,7 +2,7 @@
 
 use crate::cards::pointer;
 use crate::layout;
-use tidmaruls::{Fault, Geometry};
+use tidmaruls::raw::{Fault, Geometry};
 
 /// The blocks by pointer 0, index rising, or the first fault of that walk.
 fn walk(geometry: Geometry, image: &[u8], head: u32, top: u32) -> Result<Vec<u32>, Fault> {
@@ -36,7 +36,7 @@ pub fn blocks(geometry: Geometry, image: &[u8], head: u32, size: u32) -> Vec<u32
 /// The first fault of a list on a valid card; None if it is sound.
 pub fn fault(geometry: Geometry, image: &[u8], head: u32, size: u32) -> Option<Fault> {
     if size == 0 {
-        return (head != tidmaruls::NULL).then_some(Fault::Headed);
+        return (head != tidmaruls::raw::NULL).then_some(Fault::Headed);
     }
     let block_size = geometry.block_size;
     let top = layout::index(block_size, size - 1);

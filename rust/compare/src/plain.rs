@@ -2,7 +2,7 @@
 
 use crate::{layout, model};
 use std::collections::BTreeMap;
-use tidmaruls::{Card, Refusal, Window, FILE_MAX};
+use tidmaruls::raw::{Card, Refusal, Window, FILE_MAX};
 
 /// The files by number.
 #[derive(Clone, Default)]

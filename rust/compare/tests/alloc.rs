@@ -22,7 +22,7 @@ mod with_oracle {
     use compare::cards::{self, geometry, List};
     use compare::{grown, Random};
     use oracle::Oracle;
-    use tidmaruls::{fresh, Card};
+    use tidmaruls::raw::{fresh, Card};
 
     /// The same card on both sides, and lists on it to make tables of.
     struct Bench {

@@ -6,7 +6,7 @@ mod with_oracle {
     use compare::cards::{self, BLOCK_SIZES};
     use compare::{grown, Random};
     use oracle::Oracle;
-    use tidmaruls::{Card, Geometry};
+    use tidmaruls::raw::{Card, Geometry};
 
     /// The same card on both sides, and the files that both list.
     struct Bench {
@@ -31,7 +31,7 @@ mod with_oracle {
                     .for_each(|health| *health = random.one_in(share) as u8);
                 oracle.device.health.copy_from_slice(&card.health);
             }
-            let files = vec![(tidmaruls::NULL, 0); random.between(1, 8) as usize];
+            let files = vec![(tidmaruls::raw::NULL, 0); random.between(1, 8) as usize];
             Bench {
                 card,
                 oracle,
@@ -96,7 +96,7 @@ mod with_oracle {
                     Ok(_) if random.one_in(8) => {}
                     Ok((block, offset)) => self.fill(file, block, offset, random),
                     Err(_) => {
-                        self.files[file] = (tidmaruls::NULL, 0);
+                        self.files[file] = (tidmaruls::raw::NULL, 0);
                         self.ckpoint();
                     }
                 }

@@ -14,7 +14,7 @@ fn index_as_listed() {
     let rows = rows();
     assert!(rows.len() >= 300, "only {} rows", rows.len());
     for row in &rows {
-        let place = tidmaruls::index(row.block_size, row.position).expect("served");
+        let place = tidmaruls::raw::index(row.block_size, row.position).expect("served");
         assert_eq!(
             (place.index, place.offset),
             (row.index, row.offset),

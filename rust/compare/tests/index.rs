@@ -9,7 +9,7 @@ fn small_blocks_are_refused() {
     let mut random = Random::new(2);
     for block_size in 0..128 {
         for position in [0, 1, 127, 128, u32::MAX, random.number(), random.number()] {
-            assert_eq!(tidmaruls::index(block_size, position), Err(-22));
+            assert_eq!(tidmaruls::raw::index(block_size, position), Err(-22));
         }
     }
 }
@@ -24,7 +24,7 @@ mod with_oracle {
         let mut oracle = Oracle::bare(block_size);
         let mut compared = 0;
         for position in positions {
-            let place = tidmaruls::index(block_size, position).expect("served");
+            let place = tidmaruls::raw::index(block_size, position).expect("served");
             let (index, offset) = (place.index, place.offset);
             assert!(
                 oracle.index(position) == (index, offset)

@@ -6,7 +6,7 @@ mod with_oracle {
     use compare::cards::{damage, geometry, List};
     use compare::{grown, layout, Random};
     use oracle::Oracle;
-    use tidmaruls::{find, visit, Found, Geometry};
+    use tidmaruls::raw::{find, visit, Found, Geometry};
 
     /// A card of the oracle's, and how much was compared on it.
     struct Bench {
@@ -69,7 +69,7 @@ mod with_oracle {
         fn check(&mut self, list: &List) -> bool {
             let image = &self.oracle.device.image;
             let wanted = compare::model::fault(self.geometry, image, list.head(), list.size);
-            let ours = tidmaruls::check(self.geometry, image, list.head(), list.size);
+            let ours = tidmaruls::raw::check(self.geometry, image, list.head(), list.size);
             assert_eq!(ours, Ok(wanted), "{:?}, {list:?}", self.geometry);
             wanted.is_none()
         }
@@ -117,7 +117,7 @@ mod with_oracle {
 
     /// One list of this size on a card of its own; answers lookups, and those where the oracle tested nothing.
     fn list_of(block_size: u32, size: u32, random: &mut Random) -> (u64, u64) {
-        let needed = tidmaruls::index(block_size, size - 1)
+        let needed = tidmaruls::raw::index(block_size, size - 1)
             .expect("a size")
             .index
             + 1;

@@ -6,7 +6,7 @@ mod with_oracle {
     use compare::cards::{self, BLOCK_SIZES};
     use compare::{grown, Random};
     use oracle::{File, Oracle};
-    use tidmaruls::Card;
+    use tidmaruls::raw::Card;
 
     /// A card with one list grown by the oracle, as file 9.
     fn grown_card(block_size: u32, random: &mut Random) -> (Card, Oracle) {
@@ -30,7 +30,7 @@ mod with_oracle {
         assert_eq!(read, Ok(wanted as u32));
         assert!(ours == theirs, "{entry:?}, position {position}");
         let stretch = card.stretch(9, position).expect("a sound list");
-        let place = tidmaruls::index(card.geometry.block_size, position).expect("served");
+        let place = tidmaruls::raw::index(card.geometry.block_size, position).expect("served");
         let rest = entry.size.saturating_sub(position);
         let to_the_end = (card.geometry.block_size - place.offset).min(rest);
         assert_eq!(stretch.len() as u32, to_the_end);

@@ -3,7 +3,7 @@
 #[cfg(feature = "lists")]
 mod lists {
     use compare::cards::geometry;
-    use tidmaruls::{find, visit, Found, FILE_MAX, NULL};
+    use tidmaruls::raw::{find, visit, Found, FILE_MAX, NULL};
 
     /// Geometries and image lengths that are no card.
     pub const CARDS: [(u32, u32, usize); 7] = [
@@ -53,7 +53,7 @@ mod lists {
 #[test]
 fn checks() {
     use compare::cards::geometry;
-    use tidmaruls::{check, Fault, FILE_MAX, NULL};
+    use tidmaruls::raw::{check, Fault, FILE_MAX, NULL};
     let (card, image) = (geometry(128, 4), vec![0xFF; 512]);
     assert_eq!(check(card, &image, 0, FILE_MAX + 1), Err(-22));
     assert_eq!(check(card, &image, NULL, 0), Ok(None));
@@ -71,7 +71,7 @@ fn checks() {
 #[test]
 fn seeks() {
     let table = compare::cards::table(&[(7, 100, 3)]);
-    let beyond = tidmaruls::FILE_MAX + 1;
+    let beyond = tidmaruls::raw::FILE_MAX + 1;
     assert_eq!(table.seek(65536, beyond, -1, 0), Err(-22));
     assert_eq!(table.seek(8, beyond, -1, 0), Err(-2));
     for whence in [0, 1, 2, 3, -1] {
@@ -87,11 +87,11 @@ fn seeks() {
 fn windows() {
     use compare::cards::{blank, geometry};
     for lookahead in [0, 4, 7, 9, 65, 72, u32::MAX] {
-        let made = tidmaruls::fresh(geometry(128, 10), lookahead, 0);
+        let made = tidmaruls::raw::fresh(geometry(128, 10), lookahead, 0);
         assert_eq!(made, Err(-22));
     }
-    assert_eq!(tidmaruls::fresh(geometry(128, 10), 8, 10), Err(-22));
-    assert_eq!(tidmaruls::fresh(geometry(128, 0), 8, 0), Err(-22));
+    assert_eq!(tidmaruls::raw::fresh(geometry(128, 10), 8, 10), Err(-22));
+    assert_eq!(tidmaruls::raw::fresh(geometry(128, 0), 8, 0), Err(-22));
     for (start, next, size, ckpoint) in [
         (100, 0, 0, 100),
         (0, 1, 0, 100),
@@ -120,12 +120,12 @@ mod growth {
     fn sizes_and_health() {
         let mut card = blank(geometry(128, 4), 8, 0);
         let whole = card.clone();
-        assert_eq!(card.extend(0, tidmaruls::FILE_MAX + 1), Err(-22));
+        assert_eq!(card.extend(0, tidmaruls::raw::FILE_MAX + 1), Err(-22));
         assert_eq!(card, whole);
         for health in [vec![0; 3], vec![0; 5], vec![0, 3, 0, 0]] {
             card.health = health;
             let before = card.clone();
-            assert_eq!(card.extend(tidmaruls::NULL, 0), Err(-22));
+            assert_eq!(card.extend(tidmaruls::raw::NULL, 0), Err(-22));
             assert_eq!(card, before);
         }
     }
@@ -152,7 +152,7 @@ fn reads() {
     use compare::cards::{blank, geometry, table};
     let mut card = blank(geometry(128, 4), 8, 0);
     card.table = table(&[(5, 200, 4)]);
-    let beyond = tidmaruls::FILE_MAX + 1;
+    let beyond = tidmaruls::raw::FILE_MAX + 1;
     let mut buffer = [7; 10];
     for (number, position, code) in [(65536, 0, -22), (6, 0, -2), (5, beyond, -22), (5, 0, -84)] {
         assert_eq!(card.read(number, position, &mut buffer), Err(code));
@@ -171,8 +171,8 @@ fn reads() {
 fn stores() {
     use compare::cards::{blank, geometry, table};
     let mut whole = blank(geometry(128, 4), 8, 0);
-    whole.table = table(&[(5, 0, tidmaruls::NULL)]);
-    let wrong: [fn(&mut tidmaruls::Card); 9] = [
+    whole.table = table(&[(5, 0, tidmaruls::raw::NULL)]);
+    let wrong: [fn(&mut tidmaruls::raw::Card); 9] = [
         |card| card.geometry.block_size = 127,
         |card| card.geometry.block_count = 5,
         |card| card.lookahead = 12,

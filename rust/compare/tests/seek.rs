@@ -5,7 +5,7 @@
 mod with_oracle {
     use compare::{cards, Random};
     use oracle::Oracle;
-    use tidmaruls::FILE_MAX;
+    use tidmaruls::raw::FILE_MAX;
 
     const WHENCES: [i32; 8] = [0, 1, 2, 3, 7, -1, i32::MIN, i32::MAX];
     const LIMITS: [u32; 12] = [
@@ -24,7 +24,7 @@ mod with_oracle {
     ];
 
     fn compare(oracle: &mut Oracle, size: u32, position: u32, offset: i32, whence: i32) {
-        let head = if size == 0 { tidmaruls::NULL } else { 3 };
+        let head = if size == 0 { tidmaruls::raw::NULL } else { 3 };
         let table = cards::table(&[(7, size, head)]);
         let ours = table.seek(7, position, offset, whence);
         let theirs = oracle.seek(size, position, offset, whence);

@@ -4,14 +4,14 @@
 use compare::cards::table;
 use compare::Random;
 use std::collections::BTreeMap;
-use tidmaruls::Table;
+use tidmaruls::raw::Table;
 
 /// The rules' own bytes.
 const SAVED: [u8; 8] = [0x02, 0x03, 0xAC, 0x02, 0x07, 0xC8, 0x01, 0x00];
 
 #[test]
 fn worked_bytes() {
-    let held = table(&[(3, 300, 7), (200, 0, tidmaruls::NULL)]);
+    let held = table(&[(3, 300, 7), (200, 0, tidmaruls::raw::NULL)]);
     let mut buffer = [0xEE; 10];
     assert_eq!(held.save(&mut buffer), Ok(8));
     assert_eq!(buffer[..8], SAVED);
@@ -47,13 +47,13 @@ fn refused_forms() {
 /// Tables that are none are refused by every call, and come back as they were.
 #[test]
 fn refused_tables() {
-    let null = tidmaruls::NULL;
+    let null = tidmaruls::raw::NULL;
     let mut tables = vec![
         table(&[(3, 0, 0)]),
         table(&[(3, 1, null)]),
         table(&[(3, 1, 65_536)]),
         table(&[(65_536, 1, 0)]),
-        table(&[(3, tidmaruls::FILE_MAX + 1, 0)]),
+        table(&[(3, tidmaruls::raw::FILE_MAX + 1, 0)]),
         table(&[(3, 0, null), (3, 0, null)]),
         table(&[(4, 0, null), (3, 0, null)]),
         Table::EMPTY,
@@ -78,7 +78,7 @@ fn random_table(random: &mut Random) -> Table {
             let empty = size == 0 || random.one_in(8);
             let head = random.below(65_536);
             if empty {
-                (number, 0, tidmaruls::NULL)
+                (number, 0, tidmaruls::raw::NULL)
             } else {
                 (number, size, head)
             }

@@ -7,7 +7,7 @@ mod with_oracle {
     use compare::plain::good_unlisted;
     use compare::{grown, layout, Random};
     use oracle::{File, Oracle};
-    use tidmaruls::{Card, Geometry};
+    use tidmaruls::raw::{Card, Geometry};
 
     /// A card with some lists grown by the oracle as files 0, 1, .., a fresh window, and some blocks that refuse erase.
     fn grown_card(geometry: Geometry, random: &mut Random) -> (Card, Oracle) {

@@ -1,159 +1,187 @@
-//! A card held whole, with its window and its table: the calls that read and change files.
+//! Files on a card, to read and to write.
 
-#[allow(unused_imports)]
-use crate::{ffi, Geometry, Refusal, Table, Window};
+use crate::table::on_file;
+use crate::{ffi, Error, Geometry, Image, Table, View, Window};
+use std::fmt;
 
-/// All that a call on files works on. A refused call leaves it as the rules say.
-#[derive(Clone, PartialEq, Eq, Debug)]
-pub struct Card {
-    pub geometry: Geometry,
-    /// Bytes of the window's map that are used: 8 to 64, a multiple of 8.
-    pub lookahead: u32,
-    pub image: Vec<u8>,
-    /// One byte a block: 0 good, 1 refuses erase, 2 refuses its first program.
-    pub health: Vec<u8>,
-    pub window: Window,
-    pub table: Table,
+/// An image, its health, its table and its window: all that a call which writes works on.
+///
+/// A refused call hands the table back as it came, so every file still reads as before. The image is changed in place; keep
+/// the table ([`Table::to_bytes`]) with it.
+pub struct Card<'a> {
+    geometry: Geometry,
+    image: &'a mut [u8],
+    health: &'a [u8],
+    table: Table,
+    window: Window,
 }
 
-/// A fresh window that starts at this block.
-#[cfg(feature = "fresh")]
-pub fn fresh(geometry: Geometry, lookahead: u32, start: u32) -> Result<Window, Refusal> {
-    let told = unsafe { ffi::tid_fresh(geometry, lookahead, start) };
-    crate::refused(told.code).map(|_| told.window)
-}
-
-impl Card {
-    /// Sets the window's checkpoint count to the block count.
-    #[cfg(feature = "ckpoint")]
-    pub fn ckpoint(&mut self) -> Result<(), Refusal> {
-        let told = unsafe { ffi::tid_ckpoint(self.geometry, self.lookahead, self.window) };
-        self.window = told.window;
-        crate::refused(told.code)
+impl<'a> Card<'a> {
+    /// A card without files, its window fresh from block 0.
+    ///
+    /// ```
+    /// use tidmaruls::{Card, Error, Geometry};
+    ///
+    /// let geometry = Geometry::new(128, 4)?;
+    /// let mut image = geometry.blank_image();
+    /// let mut health = geometry.good_health();
+    /// health[0] = 1;
+    /// let mut card = Card::new(geometry, &mut image, &health)?;
+    /// card.create(3)?;
+    /// card.write(3, 0, &[1; 372])?;
+    /// assert_eq!(card.write(3, 372, &[1]), Err(Error::NoRoom));
+    /// assert_eq!(card.view().bytes(3)?, [1; 372]);
+    /// # Ok::<(), Error>(())
+    /// ```
+    pub fn new(
+        geometry: Geometry,
+        image: &'a mut [u8],
+        health: &'a [u8],
+    ) -> Result<Card<'a>, Error> {
+        Card::open(geometry, image, health, Table::new())
     }
 
-    /// Empties the window; the next allocation scans.
-    #[cfg(feature = "drop")]
-    pub fn drop_window(&mut self) -> Result<(), Refusal> {
-        let told = unsafe { ffi::tid_drop(self.geometry, self.lookahead, self.window) };
-        self.window = told.window;
-        crate::refused(told.code)
+    /// A card with the files of a table, its window fresh from block 0.
+    pub fn open(
+        geometry: Geometry,
+        image: &'a mut [u8],
+        health: &'a [u8],
+        table: Table,
+    ) -> Result<Card<'a>, Error> {
+        Image::new(geometry, image)?;
+        let (needed, given) = (geometry.block_count() as usize, health.len());
+        if needed != given {
+            return Err(Error::HealthLength { needed, given });
+        }
+        if let Some(block) = health.iter().position(|&byte| byte > 2) {
+            return Err(Error::Health {
+                block: block as u32,
+                value: health[block],
+            });
+        }
+        let window = Window::fresh(geometry, Window::LOOKAHEAD, 0)?;
+        Ok(Card {
+            geometry,
+            image,
+            health,
+            table,
+            window,
+        })
     }
 
-    /// Takes a block that no file uses.
-    #[cfg(feature = "alloc")]
-    pub fn alloc(&mut self) -> Result<u32, Refusal> {
-        let told = unsafe {
-            ffi::tid_alloc(
-                self.geometry,
-                self.lookahead,
-                self.image.as_ptr(),
-                self.image.len(),
-                self.table,
-                self.window,
-            )
-        };
-        self.window = told.window;
-        crate::refused(told.code).map(|_| told.block)
+    /// The card with another window: a fresh one, or the one that its last call left.
+    pub fn with_window(mut self, window: Window) -> Result<Card<'a>, Error> {
+        self.window = Window::from_raw(self.geometry, window.lookahead(), window.to_raw())?;
+        Ok(self)
     }
 
-    /// Grows the list of this head and size by one block: the block and where its data goes on.
-    #[cfg(feature = "extend")]
-    pub fn extend(&mut self, head: u32, size: u32) -> Result<(u32, u32), Refusal> {
-        let told = unsafe {
-            ffi::tid_extend(
-                self.geometry,
-                self.lookahead,
-                self.image.as_mut_ptr(),
-                self.image.len(),
-                self.health.as_ptr(),
-                self.health.len(),
-                self.table,
-                self.window,
-                head,
-                size,
-            )
-        };
-        self.window = told.window;
-        crate::refused(told.code).map(|_| (told.block, told.offset))
+    /// The card's numbers.
+    pub fn geometry(&self) -> Geometry {
+        self.geometry
     }
 
-    /// Reads from a position to the end of `to` or of the file; answers how many bytes.
-    #[cfg(feature = "read")]
-    pub fn read(&self, number: u32, position: u32, to: &mut [u8]) -> Result<u32, Refusal> {
-        let told = unsafe {
-            ffi::tid_read(
-                self.geometry,
-                self.image.as_ptr(),
-                self.image.len(),
-                self.table,
-                number,
-                position,
-                to.as_mut_ptr(),
-                to.len(),
-            )
-        };
-        crate::refused(told.code).map(|_| told.length)
+    /// The card, to read.
+    pub fn view(&self) -> View<'_> {
+        View::of(Image::of(self.geometry, self.image), &self.table)
     }
 
-    /// The bytes from a position to the end of its block or file, where they lie on the card.
-    #[cfg(feature = "stretch")]
-    pub fn stretch(&self, number: u32, position: u32) -> Result<&[u8], Refusal> {
-        let told = unsafe {
-            ffi::tid_stretch(
-                self.geometry,
-                self.image.as_ptr(),
-                self.image.len(),
-                self.table,
-                number,
-                position,
-            )
-        };
-        let place = told.place as usize;
-        crate::refused(told.code).map(|_| &self.image[place..place + told.length as usize])
+    /// The table as the last call left it.
+    pub fn table(&self) -> &Table {
+        &self.table
     }
 
-    #[cfg(feature = "write")]
-    pub fn write(&mut self, number: u32, position: u32, data: &[u8]) -> Result<(), Refusal> {
+    /// The window as the last call left it.
+    pub fn window(&self) -> &Window {
+        &self.window
+    }
+
+    /// Makes an empty file.
+    pub fn create(&mut self, number: u32) -> Result<(), Error> {
+        self.table.create(number)
+    }
+
+    /// Removes a file.
+    pub fn remove(&mut self, number: u32) -> Result<(), Error> {
+        self.table.remove(number)
+    }
+
+    /// Writes bytes at a position. A gap past the end becomes zeros; bytes past the data stay.
+    pub fn write(&mut self, number: u32, position: u32, data: &[u8]) -> Result<(), Error> {
         let told = unsafe {
             ffi::tid_write(
-                self.geometry,
-                self.lookahead,
+                self.geometry.crossing(),
+                self.window.lookahead(),
                 self.image.as_mut_ptr(),
                 self.image.len(),
                 self.health.as_ptr(),
                 self.health.len(),
-                self.window,
-                self.table,
+                self.window.to_raw(),
+                self.table.crossing(),
                 number,
                 position,
                 data.as_ptr(),
                 data.len(),
             )
         };
-        self.window = told.window;
-        self.table = told.table;
-        crate::refused(told.code)
+        let length = data.len();
+        match told.code {
+            -27 => Err(Error::TooLarge { position, length }),
+            _ => self.stored(told, number, Error::Position(position)),
+        }
     }
 
-    #[cfg(feature = "truncate")]
-    pub fn truncate(&mut self, number: u32, size: u32) -> Result<(), Refusal> {
+    /// Writes bytes at the end.
+    pub fn append(&mut self, number: u32, data: &[u8]) -> Result<(), Error> {
+        let end = self.table.size(number)?;
+        self.write(number, end, data)
+    }
+
+    /// Gives a file another size: cuts it, or adds zeros.
+    ///
+    /// ```
+    /// # use tidmaruls::{Card, Geometry};
+    /// # let geometry = Geometry::new(128, 10)?;
+    /// # let (mut image, health) = (geometry.blank_image(), geometry.good_health());
+    /// # let mut card = Card::new(geometry, &mut image, &health)?;
+    /// card.create(1)?;
+    /// card.write(1, 0, b"stops")?;
+    /// card.truncate(1, 3)?;
+    /// card.truncate(1, 5)?;
+    /// assert_eq!(card.view().bytes(1)?, b"sto\0\0");
+    /// # Ok::<(), tidmaruls::Error>(())
+    /// ```
+    pub fn truncate(&mut self, number: u32, size: u32) -> Result<(), Error> {
         let told = unsafe {
             ffi::tid_truncate(
-                self.geometry,
-                self.lookahead,
+                self.geometry.crossing(),
+                self.window.lookahead(),
                 self.image.as_mut_ptr(),
                 self.image.len(),
                 self.health.as_ptr(),
                 self.health.len(),
-                self.window,
-                self.table,
+                self.window.to_raw(),
+                self.table.crossing(),
                 number,
                 size,
             )
         };
-        self.window = told.window;
-        self.table = told.table;
-        crate::refused(told.code)
+        self.stored(told, number, Error::Size(size))
+    }
+
+    /// Takes over the window and table that a call left.
+    fn stored(&mut self, told: ffi::Stored, number: u32, invalid: Error) -> Result<(), Error> {
+        self.window = Window::crossed(self.window.lookahead(), told.window);
+        self.table = Table::crossed(told.table);
+        on_file(told.code, number, invalid)
+    }
+}
+
+impl fmt::Debug for Card<'_> {
+    fn fmt(&self, to: &mut fmt::Formatter<'_>) -> fmt::Result {
+        let mut shown = to.debug_struct("Card");
+        shown.field("geometry", &self.geometry);
+        shown.field("table", &self.table);
+        shown.field("window", &self.window);
+        shown.finish_non_exhaustive()
     }
 }

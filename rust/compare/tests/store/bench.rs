@@ -2,7 +2,7 @@
 
 use compare::plain::{good_unlisted, is_fresh, is_window, passed_since, Plain};
 use compare::Random;
-use tidmaruls::{check, fresh, Card, Refusal, Table, FILE_MAX};
+use tidmaruls::raw::{check, fresh, Card, Refusal, Table, FILE_MAX};
 
 /// How the calls went.
 #[derive(Default, Debug)]

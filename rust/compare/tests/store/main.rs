@@ -7,7 +7,7 @@ use bench::{Bench, Tally};
 use compare::cards::{self, BLOCK_SIZES};
 use compare::plain::Plain;
 use compare::Random;
-use tidmaruls::{Card, Geometry};
+use tidmaruls::raw::{Card, Geometry};
 
 /// A card with noise on it, some blocks faulty, and a fresh window.
 fn card(geometry: Geometry, random: &mut Random) -> Card {

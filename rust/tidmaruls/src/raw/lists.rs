@@ -1,6 +1,6 @@
 //! Lookup, visit and check of a list on a card.
 
-use crate::{ffi, Geometry, Refusal};
+use super::{ffi, Geometry, Refusal};
 
 /// Where a lookup led: block and offset of a position, and how many pointers were followed.
 #[cfg(feature = "find")]
@@ -22,7 +22,7 @@ pub fn find(
 ) -> Result<Found, Refusal> {
     let told =
         unsafe { ffi::tid_find(geometry, image.as_ptr(), image.len(), head, size, position) };
-    crate::refused(told.code)?;
+    super::refused(told.code)?;
     Ok(Found {
         block: told.block,
         offset: told.offset,
@@ -73,7 +73,7 @@ pub fn check(
     size: u32,
 ) -> Result<Option<Fault>, Refusal> {
     let told = unsafe { ffi::tid_check(geometry, image.as_ptr(), image.len(), head, size) };
-    crate::refused(told.code)?;
+    super::refused(told.code)?;
     let (index, pointer) = (told.index, told.pointer);
     Ok(match told.kind {
         0 => None,

@@ -1,6 +1,6 @@
 //! Where a position lies in a block list.
 
-use crate::{ffi, Refusal};
+use super::{ffi, Refusal};
 
 /// Index of the block that holds a position, and the offset in it.
 #[derive(Clone, Copy, PartialEq, Eq, Debug)]
