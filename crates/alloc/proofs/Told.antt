@@ -2,7 +2,7 @@
 use mathlib.Core.Path.{_≡_, refl}
 use mathlib.Core.Bool.{Bool, true, false}
 use mathlib.Core.List.{List, [], _∷_}
-use Prim.Native.Nat.{ℕ, zero, suc, _-_}
+use Prim.Native.Nat.{ℕ, zero, suc, _-_, _<_}
 use lib.Dec.{ltb, eqb}
 use borrow.Author.Tests.{ltb-true}
 use Rattle.layout.specs.Layout.{indexAt}
@@ -11,11 +11,16 @@ use Rattle.ctz.specs.Visits.{Visited, hand, nextBlock, reads-two, nextAfter, vi
 use Rattle.files.specs.declared.Entry.{Entry}
 use Rattle.files.specs.declared.Table.{Table}
 use Rattle.files.specs.Table.{held}
-use Rattle.window.specs.Scan.{Below}
-use Rattle.windows.specs.Call.{Tells, Lists}
+use Rattle.window.specs.declared.Lookahead.{Lookahead}
+use Rattle.window.specs.declared.Answer.the-variants.{Block}
+use Rattle.window.specs.Allocate.{allocOf}
+use Rattle.window.specs.Scan.{has, Below}
+use Rattle.windows.specs.Call.{Clean, Tells, Lists}
 use Rattle.windows.proofs.Has.{below-none, below-more}
+use Rattle.windows.proofs.Single.{handed-out}
 use Rattle.windows.proofs.Listed.{AllBelow, AllOk, tells, lists}
 use Rattle.alloc.specs.Visits.{seenOf, visitsOf, seenIn, listedIn}
+use Rattle.alloc.specs.Allocate.{Ready}
 
 abbrev Low : ℕ → Visited → Type 0
 Low N v = Below N (v .handed)
@@ -64,3 +69,8 @@ table-tells B N image t = tells N (visitsOf B N image (held t)) (visits-low B N 
 pub table-lists : (B N : ℕ) (image : List ℕ) (t : Table) → AllOk (visitsOf B N image (held t)) → Lists N (listedIn B N image t) (seenIn B N image t)
 unfolding seenIn listedIn
 table-lists B N image t h = lists N (visitsOf B N image (held t)) (visits-low B N image (held t)) h
+
+-- THEOREM. The block that `alloc` hands out on a clean window is one of the card, and no file of the table has it.
+pub alloc-unlisted : (B N l len : ℕ) (image : List ℕ) (t : Table) (w : Lookahead) {b : ℕ} → Ready B N l len t w → Clean N (listedIn B N image t) w
+    → allocOf N l (seenIn B N image t) w .answer ≡ Block b → (b < N) × (has (listedIn B N image t) b ≡ false)
+alloc-unlisted B N l len image t w r c e = handed-out (r .sizes) (r .window) c (table-tells B N image t) e

@@ -1,5 +1,5 @@
 -- The loop of a growth: what is left to do equals the whole, and the checkpoint count bounds the tries.
-use mathlib.Core.Path.{_≡_, refl, ap, _∙_}
+use mathlib.Core.Path.{_≡_, refl, sym, ap, _∙_}
 use mathlib.Core.List.{List}
 use Prim.Native.Nat.{ℕ, suc, _-_, _<_}
 use native.Mathlib.Omega.{arith}
@@ -14,6 +14,7 @@ use Rattle.alloc.specs.Visits.{seenIn}
 use Rattle.alloc.specs.Allocate.{Ready}
 use Rattle.grow.specs.declared.Growth.{Growth}
 use Rattle.grow.specs.declared.Growth.the-variants.{Full, Damaged}
+use Rattle.grow.specs.declared.Grew.{Grew}
 use Rattle.grow.specs.declared.Linked.{Linked}
 use Rattle.grow.specs.declared.Linked.the-variants.{Done, Spoiled}
 use Rattle.grow.specs.Supply.{Block}
@@ -35,6 +36,15 @@ pub record Rest (B N l : ℕ) (health : List ℕ) (t : Table) (w₀ : Lookahead)
 pub grew : {o : GrowOut Lookahead} (a : Growth) (after : List ℕ) (v : Lookahead) → o ≡ grow-out a after v
     → GrewGives o (record { answer = a; window = v }) after
 grew a after v e = rw e (record { answer = refl; window = refl; image = refl })
+
+-- two outcomes that a definition allows are one
+told : {o : GrowOut Lookahead} {r : Grew} {after : List ℕ} → GrewGives o r after → r ≡ record { answer = o .answer; window = o .rest }
+told {o} {r} g =
+    ap (λ (x : Growth). record { answer = x; window = r .window }) (g .answer)
+    ∙ ap (λ (x : Lookahead). record { answer = o .answer; window = x }) (g .window)
+
+pub one-growth : {o : GrowOut Lookahead} {r r′ : Grew} {after after′ : List ℕ} → GrewGives o r after → GrewGives o r′ after′ → (r ≡ r′) × (after ≡ after′)
+one-growth g h = (told g ∙ sym (told h), g .image ∙ sym (h .image))
 
 module _ {B N l : ℕ} {health : List ℕ} {t : Table} {w₀ : Lookahead} {s : ℕ} {img₀ : List ℕ} (x : Extending B N l img₀ health t w₀ s) where
   pub rest-start : (head : ℕ) → Rest B N l health t w₀ head s img₀ w₀ img₀

@@ -43,6 +43,7 @@ unfoldable pub extendTested : ℕ → ℕ → ℕ → ℕ → List ℕ → Table
 extendTested B N l len health t w s =
     goodCard B N len && healthOk health N && lookaheadFits l && validOf w N l && tableOk t && leb s sizeMax
 
+-- one growth, for every input
 unfoldable pub extendOf : ℕ → ℕ → ℕ → List ℕ → Table → Lookahead → ℕ → ℕ → List ℕ → GrowOut Lookahead
 extendOf B N l health t w head s img =
     elim (extendTested B N l (length img) health t w s) [

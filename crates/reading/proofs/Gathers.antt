@@ -3,7 +3,7 @@ use mathlib.Core.Path.{_≡_, refl, sym, ap, _∙_, subst}
 use mathlib.Core.Bool.{Bool, true, false}
 use mathlib.Core.List.{List, [], _∷_, _++_}
 use Prim.Native.Nat.{ℕ, zero, suc, _+_, _-_, _*_, _≤_, _<_, min}
-use native.Mathlib.Nat.{zero-sub, sub-zero, min-le-left, min-le-right, le-min}
+use native.Mathlib.Nat.{zero-add, zero-sub, sub-zero, min-le-left, min-le-right, le-min}
 use native.Mathlib.Omega.{arith}
 use borrow.Author.Tests.{lt-ltb, le-ltb, ltb-true, ltb-false}
 use lib.Dec.{ltb}
@@ -173,6 +173,12 @@ module _ (image : List ℕ) (head : ℕ) {B N size p n : ℕ} (r : Ranged B N si
       ap (sets buffer to) (bytes-turn c) ∙ sets-append buffer to part (bytesOf later)
       ∙ ap (λ (x : ℕ). sets (sets buffer to part) (to + x) (bytesOf later)) part-length
       ∙ ap (λ (bs : List ℕ). sets bs (to + m) (bytesOf later)) (sym (a ∙ ap (sets buffer to) (lent-part image (k * B) B off m (s .in-block))))
+
+  -- the first block of a run, then the rest
+  pub copy-first : (buffer after end : List ℕ) → clean now ≡ true → after ≡ sets buffer 0 lent → end ≡ sets after m (bytesOf later)
+      → end ≡ sets buffer 0 (bytesOf now)
+  copy-first buffer after end c a f =
+      f ∙ ap (λ (x : ℕ). sets after x (bytesOf later)) (sym (zero-add m)) ∙ sym (copy-turn buffer after 0 c a)
 
 -- ---- what a run gives: exactly as many bytes as were asked for, or -84
 

@@ -16,10 +16,10 @@ use Rattle.plain.specs.Reading.{Part, partOf, stretchIn, Got, Bytes, gather, re
 use Rattle.plain.proofs.Reading.{stretch-past}
 use Rattle.reading.specs.Bounds.{Listed, Ranged}
 use Rattle.reading.specs.Codes.{placeOf, placedLength}
-use Rattle.reading.specs.Calls.{given, clean, bytesOf, placedOf}
+use Rattle.reading.specs.Calls.{Copied, copiedOf, given, clean, bytesOf, placedOf}
 use Rattle.reading.specs.declared.Reading.the-variants as reading
 use Rattle.reading.specs.declared.Placed.the-variants as placed
-use Rattle.reading.proofs.Gathers.{all-none, Gave, copied, damaged, gave, offset-below, step}
+use Rattle.reading.proofs.Gathers.{never-both, all-none, Gave, copied, damaged, gave, offset-below, step}
 
 -- a position below the size has a run of bytes to the end behind it
 pub ranged : {B N size len : ℕ} (p n : ℕ) → Listed B N size len → p + n ≤ size → Ranged B N size p n len
@@ -32,30 +32,47 @@ gives-copied : (n : ℕ) {g : Got} (buffer after : List ℕ) → Gave n g → cl
 gives-copied n buffer after (copied bs e) c a = rw (a, sym e) refl
 gives-copied n buffer after damaged c a = let z : _≡_ {A = ℕ} 0 1 = cc in absurd (omega arith)
 
-gives-damaged : (n : ℕ) {g : Got} (buffer : List ℕ) → Gave n g → clean g ≡ false → record { answer = reading.Damaged; buffer = buffer } ≡ given buffer g
-gives-damaged n buffer (copied bs e) c = let z : _≡_ {A = ℕ} 0 1 = cc in absurd (omega arith)
-gives-damaged n buffer damaged c = refl
+gives-damaged : (n : ℕ) {g : Got} (buffer after : List ℕ) → Gave n g → clean g ≡ false → after ≡ sets buffer 0 (bytesOf g)
+    → record { answer = reading.Damaged; buffer = after } ≡ given buffer g
+gives-damaged n buffer after (copied bs e) c a = absurd (never-both refl c)
+gives-damaged n buffer after damaged c a = rw a refl
+
+-- a run that was copied, and one that was not
+pub run-copied : (buffer after : List ℕ) (g : Got) → clean g ≡ true → after ≡ sets buffer 0 (bytesOf g) → record { whole = true; after = after } ≡ copiedOf buffer g
+unfolding copiedOf
+run-copied buffer after g c a = rw (c, a) refl
+
+pub run-damaged : (buffer : List ℕ) (g : Got) → clean g ≡ false → record { whole = false; after = buffer } ≡ copiedOf buffer g
+unfolding copiedOf
+run-damaged buffer (Bytes bs) c = absurd (never-both refl c)
+run-damaged buffer Got.Damaged c = refl
+run-damaged buffer Got.Refused c = refl
 
 module _ (image : List ℕ) (B N head size p : ℕ) (buffer : List ℕ) where
-  pub read-past : size ≤ p → record { answer = reading.Bytes 0; buffer = buffer } ≡ given buffer (readIn image B N head size p (length buffer))
+  pub read-none : (n : ℕ) → n ≡ min (length buffer) (size - p) → n ≡ 0
+      → record { answer = reading.Bytes 0; buffer = buffer } ≡ given buffer (readIn image B N head size p (length buffer))
   unfolding readIn
-  read-past h =
-      let r = min-le-right (length buffer) (size - p) in
-      sym (ap (given buffer) (all-none image B N head size p (min (length buffer) (size - p)) (omega arith)))
+  read-none n q z = sym (ap (given buffer) (all-none image B N head size p (min (length buffer) (size - p)) (omega arith)))
 
   module _ (n : ℕ) (q : n ≡ min (length buffer) (size - p)) (r : Ranged B N size p n (length image)) where
     read-is : readIn image B N head size p (length buffer) ≡ gather n image B N head size p n
     unfolding readIn
     read-is = rw (readIn, sym q) refl
 
-    pub read-damaged : clean (gather n image B N head size p n) ≡ false
-        → record { answer = reading.Damaged; buffer = buffer } ≡ given buffer (readIn image B N head size p (length buffer))
-    read-damaged c = gives-damaged n buffer (gave image head p n r) c ∙ sym (ap (given buffer) read-is)
+    module _ (whole : Bool) (after : List ℕ) (ran : record { whole = whole; after = after } ≡ copiedOf buffer (gather n image B N head size p n)) where
+      told : whole ≡ clean (gather n image B N head size p n)
+      unfolding copiedOf
+      told = ap (λ (o : Copied). o .whole) ran
 
-    pub read-copied : (after : List ℕ) → clean (gather n image B N head size p n) ≡ true
-        → after ≡ sets buffer 0 (bytesOf (gather n image B N head size p n))
-        → record { answer = reading.Bytes n; buffer = after } ≡ given buffer (readIn image B N head size p (length buffer))
-    read-copied after c a = gives-copied n buffer after (gave image head p n r) c a ∙ sym (ap (given buffer) read-is)
+      left : after ≡ sets buffer 0 (bytesOf (gather n image B N head size p n))
+      unfolding copiedOf
+      left = ap (λ (o : Copied). o .after) ran
+
+      pub read-damaged : whole ≡ false → record { answer = reading.Damaged; buffer = after } ≡ given buffer (readIn image B N head size p (length buffer))
+      read-damaged w = gives-damaged n buffer after (gave image head p n r) (sym told ∙ w) left ∙ sym (ap (given buffer) read-is)
+
+      pub read-copied : whole ≡ true → record { answer = reading.Bytes n; buffer = after } ≡ given buffer (readIn image B N head size p (length buffer))
+      read-copied w = gives-copied n buffer after (gave image head p n r) (sym told ∙ w) left ∙ sym (ap (given buffer) read-is)
 
 -- a read behind the tests gives -84, or exactly min(room, size - position) bytes
 pub readIn-gave : (image : List ℕ) (head : ℕ) {B N size : ℕ} (p room : ℕ) → Listed B N size (length image)

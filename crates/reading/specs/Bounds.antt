@@ -2,7 +2,7 @@
 use mathlib.Core.Path.{_≡_}
 use mathlib.Core.Bool.{true}
 use mathlib.Core.List.{List}
-use Prim.Native.Nat.{ℕ, _+_, _≤_}
+use Prim.Native.Nat.{ℕ, _+_, _≤_, _<_}
 use lib.ListN.{length}
 use Rattle.card.specs.Card.{Card}
 use Rattle.plain.specs.Reading.{gather}
@@ -19,8 +19,14 @@ pub record Ranged (B N size p n len : ℕ) : Type 0 where
   pub most : size ≤ 2147483647
   pub inside : p + n ≤ size
 
--- The same where the lookups of all their blocks found them, and there is room for them.
-pub record Cleared (image : List ℕ) (B N head size p n room : ℕ) : Type 0 where
+-- At least one of them, with room for all.
+pub record Roomy (B N size p n len room : ℕ) : Type 0 where
+  pub run : Ranged B N size p n len
+  pub some : 0 < n
+  pub fits : n ≤ room
+
+-- The lookups of all their blocks found them, and there is room from place `to` on.
+pub record Cleared (image : List ℕ) (B N head size p n to room : ℕ) : Type 0 where
   pub run : Ranged B N size p n (length image)
   pub found : clean (gather n image B N head size p n) ≡ true
-  pub fits : n ≤ room
+  pub fits : to + n ≤ room

@@ -55,6 +55,14 @@ bytesOf (Bytes bytes) = bytes
 bytesOf Got.Damaged = []
 bytesOf Got.Refused = []
 
+-- whether a run was copied, and the buffer behind it
+pub record Copied : Type 0 where
+  pub whole : Bool
+  pub after : List ℕ
+
+unfoldable pub copiedOf : List ℕ → Got → Copied
+copiedOf buffer g = record { whole = clean g; after = sets buffer 0 (bytesOf g) }
+
 -- Read gives min(room, size - position) bytes, 0 at or past the end. Every block touched is looked up first; a refusal leaves the buffer as it came.
 unfoldable pub readOf : ℕ → ℕ → List ℕ → Table → ℕ → ℕ → List ℕ → Outcome
 readOf B N image t number p buffer =

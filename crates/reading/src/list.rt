@@ -3,18 +3,25 @@ use crate::Placed;
 use crate::Reading;
 use ctz::Found;
 ghost use mathlib.Core.Path.{_≡_};
-ghost use Prim.Native.Nat.{min};
+ghost use Prim.Native.Nat.{_-_, min};
 ghost use lib.ListN.{length};
 ghost use lib.Seq.{sets};
 ghost use Rattle.plain.specs.Reading.{gather, readIn, stretchIn};
-ghost use Rattle.reading.specs.Bounds.{Listed, Ranged, Cleared};
-ghost use Rattle.reading.specs.Calls.{clean, bytesOf, given, placedOf};
+ghost use Rattle.reading.specs.Bounds.{Listed, Ranged, Roomy, Cleared};
+ghost use Rattle.reading.specs.Calls.{clean, bytesOf, copiedOf, given, placedOf};
 
 // The smaller of two lengths.
 fn least(a: u32, b: u32) -> u32
     ensures { λ r. ⌜ r ≡ min a b ⌝ }
 {
     if a <= b { a } else { b }
+}
+
+// How many bytes a file has from a position on: none at or past the end.
+fn remaining(size: u32, pos: u32) -> u32
+    ensures { λ r. ⌜ r ≡ size - pos ⌝ }
+{
+    if size <= pos { 0 } else { size - pos }
 }
 
 // How many bytes go into a buffer with that much room.
@@ -58,7 +65,7 @@ fn found_all(b: u32, n: u32, image: &[u8], head: u32, size: u32, pos: u32, count
     true
 }
 
-// Those bytes into the front of a buffer, block after block.
+// Those bytes into a buffer from place `at` on, block after block.
 fn copy_all(
     b: u32,
     n: u32,
@@ -67,14 +74,15 @@ fn copy_all(
     size: u32,
     pos: u32,
     count: u32,
+    at: usize,
     buffer: &mut [u8],
 )
-    requires { ⌜ Cleared (now image) b n head size pos count (length (now buffer)) ⌝ }
-    ensures { λ _. ⌜ now (buffer .exit) ≡ sets (now (buffer .entry)) 0 (bytesOf (gather count (now (image .entry)) b n head size pos count)) ⌝ }
+    requires { ⌜ Cleared (now image) b n head size pos count at (length (now buffer)) ⌝ }
+    ensures { λ _. ⌜ now (buffer .exit) ≡ sets (now (buffer .entry)) at (bytesOf (gather count (now (image .entry)) b n head size pos count)) ⌝ }
 {
     let mut p = pos;
     let mut left = count;
-    let mut to: usize = 0;
+    let mut to = at;
     while 0 < left {
         let found = ctz::find_in(b, n, image, head, size, p);
         match found {
@@ -106,6 +114,60 @@ fn copy_all(
     }
 }
 
+// Those bytes into the front of a buffer, where every lookup finds its block. The first block, often the only one, is looked up once.
+fn copy_found(
+    b: u32,
+    n: u32,
+    image: &[u8],
+    head: u32,
+    size: u32,
+    pos: u32,
+    count: u32,
+    buffer: &mut [u8],
+) -> bool
+    requires { ⌜ Roomy b n size pos count (length (now image)) (length (now buffer)) ⌝ }
+    ensures { λ r. ⌜
+        record { whole = r; after = now (buffer .exit) }
+        ≡ copiedOf (now (buffer .entry)) (gather count (now (image .entry)) b n head size pos count)
+        ⌝ }
+{
+    let found = ctz::find_in(b, n, image, head, size, pos);
+    match found {
+        Found::At {
+            block,
+            offset,
+            hops: _,
+        } => {
+            let part = least(b - offset, count);
+            if !found_all(b, n, image, head, size, pos + part, count - part) {
+                return false;
+            }
+            let start = block as usize * b as usize;
+            span::copy(
+                buffer,
+                0,
+                &image[start..start + b as usize],
+                offset as usize,
+                part as usize,
+            );
+            copy_all(
+                b,
+                n,
+                image,
+                head,
+                size,
+                pos + part,
+                count - part,
+                part as usize,
+                buffer,
+            );
+            true
+        }
+        Found::Damaged => false,
+        Found::Refused => false,
+    }
+}
+
 // Read: every block touched is looked up before a byte is copied.
 pub fn read_in(
     b: u32,
@@ -122,14 +184,13 @@ pub fn read_in(
         ≡ given (now (buffer .entry)) (readIn (now (image .entry)) b n head size pos (length (now (buffer .entry))))
         ⌝ }
 {
-    if size <= pos {
+    let count = fitting(buffer.len(), remaining(size, pos));
+    if count == 0 {
         return Reading::Bytes { length: 0 };
     }
-    let count = fitting(buffer.len(), size - pos);
-    if !found_all(b, n, image, head, size, pos, count) {
+    if !copy_found(b, n, image, head, size, pos, count, buffer) {
         return Reading::Damaged;
     }
-    copy_all(b, n, image, head, size, pos, count, buffer);
     Reading::Bytes { length: count }
 }
 

@@ -2,3 +2,5 @@
 pub mod Lists
 pub mod Tables
 pub mod Allocator
+pub mod Growth
+pub mod Contents

@@ -1,14 +1,19 @@
-// The file table: create, remove, size, seek.
+// The file table: create, remove, size, seek, and its saved form.
 use files::Change;
 use files::Changed;
 use files::Sized;
 use files::Sought;
 use files::Table;
+use saved::Loaded;
+use saved::Loading;
+use saved::Saved;
 ghost use mathlib.Core.Path.{_≡_};
 ghost use Rattle.files.specs.Find.{sizeOf};
 ghost use Rattle.files.specs.Change.{createOf, removeOf};
 ghost use Rattle.files.specs.Seek.{seekOf};
-ghost use Rattle.tidmaruls.specs.Tables.{changedTold, sizedTold, soughtTold};
+ghost use Rattle.saved.specs.Save.{savedOf, bufferOf};
+ghost use Rattle.saved.specs.Load.{loadOf};
+ghost use Rattle.tidmaruls.specs.Tables.{changedTold, sizedTold, soughtTold, savedTold, loadedTold};
 
 // A table handed back; on a refusal as it came.
 #[repr(C)]
@@ -123,4 +128,56 @@ pub extern "C" fn tid_seek(
     ensures { λ r. ⌜ r ≡ soughtTold (seekOf t number position offset whence) ⌝ }
 {
     sought_told(files::seek(t, number, position, offset, whence))
+}
+
+// How many bytes a saved table took.
+#[repr(C)]
+pub struct TidSave {
+    pub code: i32,
+    pub length: u32,
+}
+
+fn saved_told(s: Saved) -> TidSave
+    ensures { λ r. ⌜ r ≡ savedTold s ⌝ }
+{
+    match s {
+        Saved::Bytes(n) => TidSave { code: 0, length: n },
+        Saved::Refused => TidSave {
+            code: -22,
+            length: 0,
+        },
+    }
+}
+
+// The table in its saved form, at the front of the buffer.
+#[no_mangle]
+pub extern "C" fn tid_save(t: Table, buffer: &mut [u8]) -> TidSave
+    ensures { λ r. ⌜ (r ≡ savedTold (savedOf t (now (buffer .entry)))) × (now (buffer .exit) ≡ bufferOf t (now (buffer .entry))) ⌝ }
+{
+    saved_told(saved::save(t, buffer))
+}
+
+fn loaded_told(l: Loaded) -> TidTable
+    ensures { λ r. ⌜ r ≡ loadedTold l ⌝ }
+{
+    let answer = l.answer;
+    let table = l.table;
+    match answer {
+        Loading::Done => TidTable {
+            code: 0,
+            table: table,
+        },
+        Loading::Damaged => TidTable {
+            code: -84,
+            table: table,
+        },
+    }
+}
+
+// The table that these bytes are the saved form of; that of no files where they are none.
+#[no_mangle]
+pub extern "C" fn tid_load(bytes: &[u8]) -> TidTable
+    ensures { λ r. ⌜ r ≡ loadedTold (loadOf (now (bytes .entry))) ⌝ }
+{
+    loaded_told(saved::load(bytes))
 }

@@ -1,9 +1,9 @@
 -- One allocation, seen on the circle. Assumes nothing.
-use mathlib.Core.Path.{_≡_, refl, ap, _∙_}
+use mathlib.Core.Path.{_≡_, refl, ap, _∙_, sym}
 use mathlib.Core.Bool.{Bool, true, false}
 use mathlib.Core.List.{[]}
 use Prim.Native.Nat.{ℕ, zero, suc, _+_, _-_, _*_, _%_, _≤_, _<_, min}
-use native.Mathlib.Nat.{mod-add-mod}
+use native.Mathlib.Nat.{mod-add-mod, add-mod-right}
 use native.Mathlib.Omega.{arith}
 use Rattle.window.specs.declared.Allocated.{Allocated}
 use Rattle.window.specs.declared.Answer.{Answer}
@@ -34,6 +34,12 @@ pub moved-on : (base n l : ℕ) (w : Lookahead) (to : ℕ) → Valid w n l → O
 moved-on base n l w to g h a b =
     let e : n - w .ckpoint + (to - w .next) ≡ n - (w .ckpoint - (to - w .next)) = omega arith in
     on-place base n w h to a ∙ ap (λ (x : ℕ). (base + x) % n) e
+
+-- a window stands on some circle
+pub some-on : (n l : ℕ) (w : Lookahead) → Valid w n l → On ((w .start + w .next + w .ckpoint) % n) n w
+some-on n l w g =
+    let e : w .start + w .next + w .ckpoint + (n - w .ckpoint) ≡ w .start + w .next + n = omega (arith, g .ck-le) in
+    sym (mod-add-mod (w .start + w .next + w .ckpoint) n (n - w .ckpoint) ∙ ap (λ (x : ℕ). x % n) e ∙ add-mod-right (w .start + w .next) n)
 
 -- how a search ends
 pub data Search (R : Claim) (base n : ℕ) (w : Lookahead) : Got → Lookahead → Type 0 where

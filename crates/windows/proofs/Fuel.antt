@@ -1,8 +1,7 @@
 -- Allocation is total: the count bounds the searches, so the fuel of its definition plays no part. Assumes nothing.
-use mathlib.Core.Path.{_≡_, refl, ap, _∙_, sym}
+use mathlib.Core.Path.{_≡_, refl}
 use mathlib.Core.Bool.{Bool, true, false}
 use Prim.Native.Nat.{ℕ, zero, suc, _+_, _-_, _*_, _%_, _≤_, _<_, min}
-use native.Mathlib.Nat.{mod-add-mod, add-mod-right}
 use native.Mathlib.Omega.{arith}
 use Rattle.window.specs.declared.Allocated.{Allocated}
 use Rattle.window.specs.declared.Got.{Got}
@@ -14,14 +13,8 @@ use Rattle.window.specs.Value.{Sizes, Valid}
 use Rattle.window.proofs.Cases.{eqb-cases}
 use Rattle.window.proofs.Kept.{cleared-valid, map-valid}
 use Rattle.window.proofs.Turns.{left, less}
-use Rattle.windows.specs.Call.{Claim, On}
-use Rattle.windows.proofs.Alloc.{Search, found, used, Sought, sought}
-
--- a window stands on some circle
-some-on : (n l : ℕ) (w : Lookahead) → Valid w n l → On ((w .start + w .next + w .ckpoint) % n) n w
-some-on n l w g =
-    let e : w .start + w .next + w .ckpoint + (n - w .ckpoint) ≡ w .start + w .next + n = omega (arith, g .ck-le) in
-    sym (mod-add-mod (w .start + w .next + w .ckpoint) n (n - w .ckpoint) ∙ ap (λ (x : ℕ). x % n) e ∙ add-mod-right (w .start + w .next) n)
+use Rattle.windows.specs.Call.{Claim}
+use Rattle.windows.proofs.Alloc.{Search, found, used, Sought, sought, some-on}
 
 over : (c s : ℕ) → c + (1 - s) ≤ c + 2
 over c s = omega arith

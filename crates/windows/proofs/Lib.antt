@@ -5,6 +5,7 @@ pub mod Scan
 pub mod Alloc
 pub mod Answers
 pub mod InCall
+pub mod Single
 pub mod Came
 pub mod Exact
 pub mod Rotate

@@ -1,10 +1,11 @@
 -- 01's worked allocations, N = 10 and L = 8. Assumes nothing.
 use mathlib.Core.Path.{_≡_, refl}
 use mathlib.Core.Bool.{true, false}
-use mathlib.Core.List.{[], _∷_}
+use mathlib.Core.List.{List, [], _∷_}
 use Prim.Native.Nat.{ℕ, zero, suc}
 use lib.ListN.{replicate}
 use Rattle.window.specs.declared.Allocated.{Allocated}
+use Rattle.window.specs.declared.Answer.{Answer}
 use Rattle.window.specs.declared.Answer.the-variants as answer
 use Rattle.window.specs.declared.Lookahead.{Lookahead}
 use Rattle.window.specs.Allocate.{allocBy, allocOf}
@@ -12,7 +13,6 @@ use Rattle.window.specs.Marks.{markAll, markMap}
 use Rattle.window.specs.Scan.{Seen, cleared, has, scanOf}
 use Rattle.window.specs.Search.{freeFrom, skip, takeOf}
 use Rattle.window.specs.Value.{freshOf}
-use Rattle.windows.specs.Call.{start}
 use Rattle.windows.specs.Space.{askOf, goodUnlisted, tally, unlistedFrom}
 
 abbrev some : Seen
@@ -35,21 +35,23 @@ listed : (one .answer ≡ answer.Block 2) × (two .answer ≡ answer.Block 3) ×
 unfolding allocOf allocBy takeOf freeFrom skip cleared markAll markMap scanOf
 listed = (refl, refl, refl, refl)
 
-abbrev after : ℕ → Lookahead → Lookahead
-after zero w = w
-after (suc k) w = allocOf 10 8 free (after k w) .window
+abbrev answers : ℕ → Lookahead → List Answer
+answers zero w = []
+answers (suc k) w = allocOf 10 8 free w .answer ∷ answers k (allocOf 10 8 free w .window)
 
--- all free: ten allocations, the eleventh -28
-eleventh : (allocOf 10 8 free (after 9 (freshOf 0 10)) .answer ≡ answer.Block 9) × (allocOf 10 8 free (after 10 (freshOf 0 10)) .answer ≡ answer.NoSpace)
+-- all free, start 0: ten allocations give 0 to 9, the eleventh -28
+eleven : answers 11 (freshOf 0 10)
+    ≡ answer.Block 0 ∷ answer.Block 1 ∷ answer.Block 2 ∷ answer.Block 3 ∷ answer.Block 4 ∷ answer.Block 5 ∷ answer.Block 6 ∷ answer.Block 7 ∷ answer.Block 8
+    ∷ answer.Block 9 ∷ answer.NoSpace ∷ []
 unfolding allocOf allocBy takeOf freeFrom skip cleared markAll markMap scanOf
-eleventh = (refl, refl)
+eleven = refl
 
 -- a visit that fails: -84, dropped, the map as its steps marked it
 damaged : allocOf 10 8 broken (freshOf 3 10) ≡ record { answer = answer.Damaged; window = record { map = 0 ∷ (2 ∷ replicate 62 0); start = 3; next = 0; size = 0; ckpoint = 10 } }
 unfolding allocOf allocBy takeOf freeFrom skip cleared markAll markMap scanOf
 damaged = refl
 
--- the circle from 3
+-- what is left to hand out from a fresh window at 3, and that asking for more of them fails
 circle : unlistedFrom 3 10 (some .blocks) 10 ≡ 3 ∷ 5 ∷ 6 ∷ 7 ∷ 8 ∷ 9 ∷ 2 ∷ []
 unfolding unlistedFrom has
 circle = refl

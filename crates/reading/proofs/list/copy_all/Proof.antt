@@ -1,4 +1,4 @@
--- `copy_all` leaves the bytes of a clean run at the front of the buffer. The invariant: what is left of the run, set behind what was copied, is the whole.
+-- `copy_all` leaves the bytes of a clean run in the buffer from place `at` on. The invariant: what is left of the run, set behind what was copied, is the whole.
 use mathlib.Core.Path.{_≡_, refl, sym, ap, _∙_}
 use mathlib.Core.Bool.{true}
 use Prim.Native.Nat.{_+_, _≤_}
@@ -17,15 +17,15 @@ use Rattle.reading.proofs.list.copy_all.Statement.{statement}
 use Rattle.reading.proofs.list.copy_all.Tie as tie
 
 abbrev Inv-loop : tie.InvT-loop
-Inv-loop b n image head size pos count buffer₀ p₀ left₀ to₀ buffer p left to =
+Inv-loop b n image head size pos count at buffer₀ p₀ left₀ to₀ buffer p left to =
     Ranged b n size p left (length image)
     × (clean (gather left image b n head size p left) ≡ true)
     × (to + left ≤ length buffer)
     × (length buffer ≡ length buffer₀)
-    × (sets buffer₀ 0 (bytesOf (gather count image b n head size pos count)) ≡ sets buffer to (bytesOf (gather left image b n head size p left)))
+    × (sets buffer₀ at (bytesOf (gather count image b n head size pos count)) ≡ sets buffer to (bytesOf (gather left image b n head size p left)))
 
 abbrev μ-loop : tie.MeasureT-loop
-μ-loop b n image head size pos count buffer₀ p₀ left₀ to₀ buffer p left to = left
+μ-loop b n image head size pos count at buffer₀ p₀ left₀ to₀ buffer p left to = left
 
 loop-holds : tie.Need-loop-holds Inv-loop μ-loop
 loop-holds c = let r = c .before .before .pre in (r .run, r .found, omega (arith, r .fits), refl, refl)

@@ -1,76 +1,77 @@
--- `read_in` leaves and answers what `readIn` gives: past the first pass every block was found, so the second copies the run.
-use mathlib.Core.Path.{_≡_, sym, _∙_}
-use mathlib.Core.Bool.{true}
-use Prim.Native.Nat.{_-_}
+-- `read_in` leaves and answers what `readIn` gives: none at or past the end or without room, else what became of the run.
+use mathlib.Core.Path.{_≡_, ap, _∙_}
+use Prim.Native.Nat.{_-_, _<_, min}
 use native.Mathlib.Nat.{min-le-left, min-le-right}
-use native.Mathlib.Omega.{arith}
-use borrow.Author.Needs.{needs}
 use borrow.Author.Tests.{not-true, not-false}
 use denote.Ref.{now}
 use lib.ListN.{length}
-use Rattle.plain.specs.Reading.{gather}
-use Rattle.reading.specs.Bounds.{Ranged}
-use Rattle.reading.specs.Calls.{clean}
-use Rattle.reading.proofs.Inner.{ranged, read-past, read-damaged, read-copied}
+use Rattle.reading.specs.Bounds.{Roomy}
+use Rattle.reading.proofs.Inner.{ranged, read-none, read-damaged, read-copied}
+use native.Mathlib.Omega.{arith}
+use borrow.Author.Needs.{needs}
 use Rattle.reading.proofs.list.read_in.Statement.{statement}
 use Rattle.reading.proofs.list.read_in.Tie as tie
 
-returns : tie.Need-returns
-returns c = read-past _ _ _ _ _ _ _ (c .if1 .taken)
-
-sub-fitting : tie.Need-sub-fitting
-sub-fitting c = search needs
+remaining-requires : tie.Need-remaining-requires
+remaining-requires c κs = search needs
 
 fitting-requires : tie.Need-fitting-requires
 fitting-requires c κs = search needs
 
--- the bytes that are read are below the size
-run : (c : tie.After-fitting)
+-- how many bytes are read
+many : (c : tie.After-fitting)
     → let a = c .before .before .before .before .args in
-    Ranged (a .b) (a .n) (a .size) (a .pos) (c .fitting .result) (length (now (a .image)))
-run c =
+    c .fitting .result ≡ min (length (now (a .buffer))) (a .size - a .pos)
+many c =
     let a = c .before .before .before .before .args in
-    let m = min-le-right (length (now (a .buffer))) (a .size - a .pos) in
-    ranged _ _ (c .before .before .before .before .pre) (omega (arith, c .fitting .ensures))
+    c .fitting .ensures ∙ ap (min (length (now (a .buffer)))) (c .before .remaining .ensures)
 
-found-all-requires : tie.Need-found-all-requires
-found-all-requires c κs = search needs
+returns : tie.Need-returns
+returns c = read-none _ _ _ _ _ _ _ _ (many (c .before)) (c .if1 .taken)
 
-returns-2 : tie.Need-returns-2
-returns-2 c = read-damaged _ _ _ _ _ _ _ _ (c .before .before .fitting .ensures) (run (c .before .before)) (sym (c .before .found-all .ensures) ∙ not-true _ (c .if2 .taken))
+-- they are below the size, and fit
+run : (c : tie.Else1)
+    → let a = c .before .before .before .before .before .args in
+    Roomy (a .b) (a .n) (a .size) (a .pos) (c .before .fitting .result) (length (now (a .image))) (length (now (a .buffer)))
+run c =
+    let s = c .before .before .before .before .before in
+    let a = s .args in
+    let l = min-le-left (length (now (a .buffer))) (a .size - a .pos) in
+    let r = min-le-right (length (now (a .buffer))) (a .size - a .pos) in
+    let m = many (c .before) in
+    let some : 0 < c .before .fitting .result = omega (arith, c .if1 .left) in
+    record { run = ranged _ _ (s .pre) (omega arith); some = some; fits = omega arith }
 
--- past the first pass all their blocks were found
-found : (c : tie.Else2)
-    → let a = c .before .before .before .before .before .before .args in
-    let n = c .before .before .fitting .result in
-    clean (gather n (now (a .image)) (a .b) (a .n) (a .head) (a .size) (a .pos) n) ≡ true
-found c = sym (c .before .found-all .ensures) ∙ not-false _ (c .if2 .left)
-
-copy-all-requires : tie.Need-copy-all-requires
-copy-all-requires c κs =
-    let f = c .before .before .before in
-    let a = f .before .before .before .before .args in
-    let m = min-le-left (length (now (a .buffer))) (a .size - a .pos) in
-    record { run = run f; found = found (c .before); fits = omega (arith, f .fitting .ensures) }
+copy-found-requires : tie.Need-copy-found-requires
+copy-found-requires c κs = run (c .before)
 
 same-length : tie.Need-same-length
 same-length c = search needs
 
+returns-2 : tie.Need-returns-2
+returns-2 c =
+    let f = c .before .before .before in
+    let e = f .before .before in
+    read-damaged _ _ _ _ _ _ _ _ (many (e .before)) (run e .run) _ _ (f .copy-found .ensures) (not-true _ (c .if2 .taken))
+
+same-length-2 : tie.Need-same-length-2
+same-length-2 c = search needs
+
 returns-3 : tie.Need-returns-3
 returns-3 c =
-    let e = c .before .before .before .before in
-    let f = e .before .before in
-    read-copied _ _ _ _ _ _ _ _ (f .fitting .ensures) (run f) _ (found e) (c .before .before .copy-all .ensures)
+    let f = c .before .before .before in
+    let e = f .before .before in
+    read-copied _ _ _ _ _ _ _ _ (many (e .before)) (run e .run) _ _ (f .copy-found .ensures) (not-false _ (c .if2 .left))
 
 pub read-in-spec : {M : Type 1} → statement M
 read-in-spec =
     tie.close
     (tie.spec
-    returns
-    sub-fitting
+    remaining-requires
     fitting-requires
-    found-all-requires
-    returns-2
-    copy-all-requires
+    returns
+    copy-found-requires
     same-length
+    returns-2
+    same-length-2
     returns-3)

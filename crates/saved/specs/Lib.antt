@@ -1,0 +1,5 @@
+-- The definitions that the contracts of `saved` cite.
+pub mod Groups
+pub mod Save
+pub mod Load
+pub mod Inner
