@@ -115,7 +115,7 @@ fn source(name: &str, folder: &Folder) -> Result<Vec<u8>, Trouble> {
         _ => Box::new(File::open(name).map_err(unread)?),
     };
     if name == "-" && io::stdin().is_terminal() {
-        eprintln!("card: reading from the terminal; end with Ctrl-D.");
+        output::complaint("card: reading from the terminal; end with Ctrl-D.");
     }
     let (most, mut bytes) = (folder.geometry.image_length(), Vec::new());
     let mut from = Read::take(&mut from, most as u64 + 1);

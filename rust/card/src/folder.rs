@@ -2,8 +2,8 @@
 
 use crate::terminal::Progress;
 use crate::trouble::Trouble;
-use std::fs::{self, File};
-use std::io::{ErrorKind, Read, Write};
+use std::fs::{self, File, OpenOptions};
+use std::io::{self, ErrorKind, Read, Write};
 use std::path::{Path, PathBuf};
 use tidmaruls::{Card, Geometry, Table, View, Window, SAVED_MAX};
 
@@ -23,7 +23,7 @@ pub struct Folder {
 fn read(path: &Path, name: &str, most: usize) -> Result<Vec<u8>, Trouble> {
     let file = path.join(name);
     let shown = file.display();
-    let trouble = |error: std::io::Error| {
+    let trouble = |error: io::Error| {
         match error.kind() {
         ErrorKind::NotFound if !path.exists() => Trouble::io(format!(
             "There is no folder {}: name a card, or make one with `card new`.",
@@ -51,13 +51,16 @@ fn read(path: &Path, name: &str, most: usize) -> Result<Vec<u8>, Trouble> {
     }
 }
 
-/// Writes a file beside the old one, then puts it in its place.
+/// Writes a file beside the old one, then puts it in its place; what is there and no plain file is written to as it is.
 pub fn replace(file: &Path, bytes: &[u8]) -> Result<(), Trouble> {
-    let name = file.file_name().unwrap_or_default().to_string_lossy();
-    let beside = file.with_file_name(format!(".{name}.{}.new", std::process::id()));
-    let written = write(&beside, &name, bytes).and_then(|()| fs::rename(&beside, file));
+    let written = match fs::metadata(file) {
+        Ok(about) if !about.is_file() => OpenOptions::new()
+            .write(true)
+            .open(file)
+            .and_then(|mut opened| opened.write_all(bytes)),
+        _ => placed(file, bytes),
+    };
     written.map_err(|error| {
-        let _ = fs::remove_file(&beside);
         Trouble::io(format!(
             "{} cannot be written ({error}): look at the folder, at who may write there and at the room left.",
             file.display()
@@ -65,7 +68,22 @@ pub fn replace(file: &Path, bytes: &[u8]) -> Result<(), Trouble> {
     })
 }
 
-fn write(file: &Path, name: &str, bytes: &[u8]) -> std::io::Result<()> {
+fn placed(file: &Path, bytes: &[u8]) -> io::Result<()> {
+    let file = fs::canonicalize(file).unwrap_or(file.to_path_buf());
+    let name = file.file_name().unwrap_or_default().to_string_lossy();
+    let beside = file.with_file_name(format!(".{name}.{}.new", std::process::id()));
+    let mut done = write(&beside, &name, bytes);
+    if let (Ok(()), Ok(old)) = (&done, fs::metadata(&file)) {
+        done = fs::set_permissions(&beside, old.permissions());
+    }
+    let done = done.and_then(|()| fs::rename(&beside, &file));
+    if done.is_err() {
+        let _ = fs::remove_file(&beside);
+    }
+    done
+}
+
+fn write(file: &Path, name: &str, bytes: &[u8]) -> io::Result<()> {
     let mut progress = Progress::new(format!("writing {name}"), bytes.len() as u64);
     let mut made = File::create(file)?;
     for (place, piece) in bytes.chunks(PIECE).enumerate() {
