@@ -3,10 +3,14 @@
 //! `cargo run --release -p bench [RUNS]`. The oracle's device is plain bytes without caches, as the library's card is.
 
 mod growth;
+#[cfg_attr(not(oracle), allow(dead_code))]
 mod measure;
 #[cfg(oracle)]
 mod ratios;
+#[cfg_attr(not(oracle), allow(dead_code))]
 mod work;
+#[cfg(oracle)]
+mod writing;
 
 fn main() {
     let runs = std::env::args().nth(1).map_or(Ok(15), |word| word.parse());

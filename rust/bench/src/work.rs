@@ -37,7 +37,6 @@ pub fn write(geometry: Geometry, image: &mut [u8], health: &[u8], data: &[u8]) {
 }
 
 /// Writes file 1 into a blank card in pieces of 64 bytes, each at the end.
-#[cfg_attr(not(oracle), allow(dead_code))]
 pub fn append(geometry: Geometry, image: &mut [u8], health: &[u8], data: &[u8]) {
     let mut card = Card::new(geometry, image, health).expect("a card");
     card.create(1).expect("a free slot");

@@ -2,6 +2,7 @@
 
 use crate::help::{self, Command};
 use crate::trouble::Trouble;
+use crate::unknown;
 use std::path::PathBuf;
 
 /// A command with its arguments and options, as many as it takes.
@@ -26,61 +27,6 @@ fn number(what: &str, word: &str) -> Result<u32, Trouble> {
     })
 }
 
-/// The known name that is nearest to a word, where one is near.
-fn near<'a>(word: &str, names: impl Iterator<Item = &'a str>) -> Option<&'a str> {
-    let distance = |name: &str| {
-        let (word, name): (Vec<char>, Vec<char>) = (word.chars().collect(), name.chars().collect());
-        let mut row: Vec<usize> = (0..=name.len()).collect();
-        for (i, a) in word.iter().enumerate() {
-            let mut corner = row[0];
-            row[0] = i + 1;
-            for (j, b) in name.iter().enumerate() {
-                let change = corner + (a != b) as usize;
-                corner = row[j + 1];
-                row[j + 1] = change.min(corner + 1).min(row[j] + 1);
-            }
-        }
-        row[name.len()]
-    };
-    let nearest = names.map(|name| (distance(name), name)).min()?;
-    (nearest.0 <= 2).then_some(nearest.1)
-}
-
-fn unknown_command(word: &str) -> Trouble {
-    let names = || help::COMMANDS.iter().map(|command| command.name);
-    let text = match near(word, names()) {
-        Some(name) => format!("There is no command `{word}`: did you mean `{name}`?"),
-        None => format!(
-            "There is no command `{word}`: use one of {}.",
-            names().collect::<Vec<_>>().join(", ")
-        ),
-    };
-    Trouble::usage(text).with_hint("`card --help` tells what each does.")
-}
-
-fn unknown_option(word: &str, command: &Command) -> Trouble {
-    let names = || {
-        command
-            .options
-            .iter()
-            .chain(command.flags)
-            .copied()
-            .chain(["--json", "--help"])
-    };
-    let text = match near(word, names()) {
-        Some(name) => format!(
-            "`card {}` has no option {word}: did you mean {name}?",
-            command.name
-        ),
-        None => format!(
-            "`card {}` has no option {word}: it has {}.",
-            command.name,
-            names().collect::<Vec<_>>().join(", ")
-        ),
-    };
-    Trouble::usage(text).with_hint(help::usage(command))
-}
-
 impl Arguments {
     pub fn parse(words: &[String]) -> Result<Arguments, Trouble> {
         let options_first = words.iter().position(|word| !word.starts_with('-'));
@@ -89,7 +35,7 @@ impl Arguments {
             return Err(Trouble::usage(text));
         };
         let name = &words[place];
-        let command = help::command(name).ok_or_else(|| unknown_command(name))?;
+        let command = help::command(name).ok_or_else(|| unknown::command(name))?;
         let mut parsed = Arguments {
             command: name.clone(),
             given: Vec::new(),
@@ -122,7 +68,7 @@ impl Arguments {
         };
         let flag = name == "--json" || command.flags.contains(&name);
         if !flag && !command.options.contains(&name) {
-            return Err(unknown_option(name, command));
+            return Err(unknown::option(name, command));
         }
         if self
             .flags

@@ -1,14 +1,12 @@
 //! A card as a folder: geometry, image, health, table.
 
+use crate::replace::{replace, PIECE};
 use crate::terminal::Progress;
 use crate::trouble::Trouble;
 use std::fs::{self, File};
-use std::io::{ErrorKind, Read, Write};
+use std::io::{self, ErrorKind, Read};
 use std::path::{Path, PathBuf};
 use tidmaruls::{Card, Geometry, Table, View, Window, SAVED_MAX};
-
-/// What is read at a time, and written at a time.
-const PIECE: usize = 1 << 20;
 
 /// The files of a folder, read and found to fit each other.
 pub struct Folder {
@@ -23,7 +21,7 @@ pub struct Folder {
 fn read(path: &Path, name: &str, most: usize) -> Result<Vec<u8>, Trouble> {
     let file = path.join(name);
     let shown = file.display();
-    let trouble = |error: std::io::Error| {
+    let trouble = |error: io::Error| {
         match error.kind() {
         ErrorKind::NotFound if !path.exists() => Trouble::io(format!(
             "There is no folder {}: name a card, or make one with `card new`.",
@@ -49,30 +47,6 @@ fn read(path: &Path, name: &str, most: usize) -> Result<Vec<u8>, Trouble> {
         }
         progress.at(bytes.len() as u64);
     }
-}
-
-/// Writes a file beside the old one, then puts it in its place.
-pub fn replace(file: &Path, bytes: &[u8]) -> Result<(), Trouble> {
-    let name = file.file_name().unwrap_or_default().to_string_lossy();
-    let beside = file.with_file_name(format!(".{name}.{}.new", std::process::id()));
-    let written = write(&beside, &name, bytes).and_then(|()| fs::rename(&beside, file));
-    written.map_err(|error| {
-        let _ = fs::remove_file(&beside);
-        Trouble::io(format!(
-            "{} cannot be written ({error}): look at the folder, at who may write there and at the room left.",
-            file.display()
-        ))
-    })
-}
-
-fn write(file: &Path, name: &str, bytes: &[u8]) -> std::io::Result<()> {
-    let mut progress = Progress::new(format!("writing {name}"), bytes.len() as u64);
-    let mut made = File::create(file)?;
-    for (place, piece) in bytes.chunks(PIECE).enumerate() {
-        made.write_all(piece)?;
-        progress.at((place * PIECE + piece.len()) as u64);
-    }
-    made.sync_all()
 }
 
 /// The numbers of the geometry file: two lines, `block-size BYTES` and `block-count COUNT`.

@@ -2,15 +2,20 @@
 
 mod arguments;
 mod check;
+mod fault;
 mod files;
 mod folder;
 mod help;
 mod json;
 mod map;
 mod output;
+mod owners;
+mod replace;
 mod svg;
 mod terminal;
+mod transfer;
 mod trouble;
+mod unknown;
 
 use arguments::Arguments;
 use std::process::ExitCode;
@@ -21,8 +26,8 @@ fn run(arguments: &Arguments) -> Result<bool, Trouble> {
     match arguments.command.as_str() {
         "new" => files::new(arguments),
         "ls" => files::ls(arguments),
-        "put" => files::put(arguments),
-        "get" => files::get(arguments),
+        "put" => transfer::put(arguments),
+        "get" => transfer::get(arguments),
         "rm" => files::rm(arguments),
         "truncate" => files::truncate(arguments),
         "check" => check::check(arguments),

@@ -1,4 +1,4 @@
-//! Standard output, whose reader may have gone.
+//! Standard output and standard error, whose readers may have gone.
 
 use crate::trouble::Trouble;
 use std::io::{self, ErrorKind, Write};
@@ -22,4 +22,9 @@ pub fn text(text: &str) -> Result<(), Trouble> {
 /// Writes a line.
 pub fn line(line: &str) -> Result<(), Trouble> {
     text(&format!("{line}\n"))
+}
+
+/// Writes a line to standard error; where that cannot be written nobody can be told.
+pub fn complaint(line: &str) {
+    let _ = writeln!(io::stderr(), "{line}");
 }

@@ -1,6 +1,6 @@
 //! The map as a picture for a browser.
 
-use crate::map::{Owner, Owners};
+use crate::owners::{Owner, Owners};
 
 const CELL: usize = 12;
 const WIDTH: usize = 64;

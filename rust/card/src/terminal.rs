@@ -51,15 +51,14 @@ impl Progress {
             return;
         }
         self.told = Some(now);
-        eprint!("\r{}", bar(&self.label, done, self.total));
-        let _ = io::stderr().flush();
+        let _ = write!(io::stderr(), "\r{}", bar(&self.label, done, self.total));
     }
 }
 
 impl Drop for Progress {
     fn drop(&mut self) {
         if self.told.is_some() {
-            eprint!("\r\x1b[K");
+            let _ = write!(io::stderr(), "\r\x1b[K");
         }
     }
 }

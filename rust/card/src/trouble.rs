@@ -1,6 +1,7 @@
 //! What ends a command early: a sentence for the person, and the exit status.
 
 use crate::json::Json;
+use crate::output;
 use std::process::ExitCode;
 
 /// A fault of the card (status 1), or a wrong use or a file that cannot be read or written (status 2).
@@ -70,11 +71,11 @@ impl Trouble {
             if let Some(hint) = &self.hint {
                 object.text("hint", hint);
             }
-            println!("{}", object.end());
+            let _ = output::line(&object.end());
         } else {
-            eprintln!("card: {}", self.text);
+            output::complaint(&format!("card: {}", self.text));
             if let Some(hint) = &self.hint {
-                eprintln!("{hint}");
+                output::complaint(hint);
             }
         }
         ExitCode::from(self.status)

@@ -21,10 +21,20 @@ impl Desk {
         self.fed(words, b"")
     }
 
-    /// The same, with these bytes as standard input.
-    pub fn fed(&self, words: &str, input: &[u8]) -> (i32, String, String) {
+    /// The tool on these words, to be run in this folder.
+    pub fn command(&self, words: &str) -> Command {
         let mut command = Command::new(env!("CARGO_BIN_EXE_card"));
         command.args(words.split_whitespace()).current_dir(&self.0);
+        command
+    }
+
+    pub fn path(&self, file: &str) -> PathBuf {
+        self.0.join(file)
+    }
+
+    /// The same, with these bytes as standard input.
+    pub fn fed(&self, words: &str, input: &[u8]) -> (i32, String, String) {
+        let mut command = self.command(words);
         command
             .stdin(Stdio::piped())
             .stdout(Stdio::piped())

@@ -1,6 +1,8 @@
 //! Wrong use: status 2, and a sentence that says what to do.
 
 use crate::desk::Desk;
+use std::fs::File;
+use std::process::Stdio;
 
 #[test]
 fn wrong_words() {
@@ -133,4 +135,40 @@ fn help() {
         );
     }
     assert!(desk.done("--version").starts_with("card "));
+}
+
+/// A full disk behind standard output or standard error is told of, or at least no crash.
+#[test]
+fn full_outputs() {
+    let Ok(full) = File::options().write(true).open("/dev/full") else {
+        return;
+    };
+    let desk = Desk::new("full");
+    desk.done("new unit --block-size 128 --block-count 10");
+    let same = || Stdio::from(full.try_clone().expect("open"));
+    let out = desk
+        .command("ls unit")
+        .stdout(same())
+        .output()
+        .expect("runs");
+    assert_eq!(out.status.code(), Some(2));
+    let told = String::from_utf8_lossy(&out.stderr).into_owned();
+    assert!(told.contains("Standard output cannot be written"), "{told}");
+    let none = desk.command("ls nowhere").stderr(same()).output();
+    assert_eq!(none.expect("runs").status.code(), Some(2));
+}
+
+/// A target that is a link keeps being one; its file gets the bytes.
+#[cfg(unix)]
+#[test]
+fn linked_targets() {
+    let desk = Desk::new("links");
+    desk.done("new unit --block-size 128 --block-count 10");
+    desk.fed("put unit 3 -", b"bytes");
+    desk.write("real", b"old");
+    std::os::unix::fs::symlink("real", desk.path("link")).expect("a link");
+    desk.done("get unit 3 link");
+    assert_eq!(desk.read("real"), b"bytes");
+    assert!(desk.path("link").is_symlink());
+    assert_eq!(desk.run("get unit 3 unit").0, 2);
 }

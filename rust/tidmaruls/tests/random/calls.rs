@@ -49,9 +49,9 @@ const PLAIN: Call = Call {
     codes: &[],
 };
 
-const COUNT: usize = 5 + if cfg!(feature = "full") { 15 } else { 0 };
-
-pub const CALLS: [Call; COUNT] = [
+/// The calls whose features are on.
+pub const CALLS: &[Call] = &[
+    #[cfg(feature = "index")]
     Call {
         name: "index",
         run: |lent| {
@@ -61,6 +61,7 @@ pub const CALLS: [Call; COUNT] = [
         codes: &[0, -22],
         ..PLAIN
     },
+    #[cfg(feature = "find")]
     Call {
         name: "find",
         run: |l| {
@@ -72,6 +73,7 @@ pub const CALLS: [Call; COUNT] = [
         codes: &[0, -22, -84],
         ..PLAIN
     },
+    #[cfg(feature = "visit")]
     Call {
         name: "visit",
         run: |l| {
@@ -85,6 +87,7 @@ pub const CALLS: [Call; COUNT] = [
         codes: &[0, -22],
         ..PLAIN
     },
+    #[cfg(feature = "visit")]
     Call {
         name: "traverse",
         run: |l| {
@@ -99,6 +102,7 @@ pub const CALLS: [Call; COUNT] = [
         codes: &[0, -22, -84],
         ..PLAIN
     },
+    #[cfg(feature = "check")]
     Call {
         name: "check",
         run: |l| {
@@ -109,7 +113,7 @@ pub const CALLS: [Call; COUNT] = [
         codes: &[0, -22],
         ..PLAIN
     },
-    #[cfg(feature = "full")]
+    #[cfg(feature = "fresh")]
     Call {
         name: "fresh",
         run: |l| {
@@ -119,7 +123,7 @@ pub const CALLS: [Call; COUNT] = [
         codes: &[0, -22],
         ..PLAIN
     },
-    #[cfg(feature = "full")]
+    #[cfg(feature = "ckpoint")]
     Call {
         name: "ckpoint",
         run: |l| {
@@ -130,7 +134,7 @@ pub const CALLS: [Call; COUNT] = [
         codes: &[0, -22],
         ..PLAIN
     },
-    #[cfg(feature = "full")]
+    #[cfg(feature = "drop")]
     Call {
         name: "drop",
         run: |l| {
@@ -141,7 +145,7 @@ pub const CALLS: [Call; COUNT] = [
         codes: &[0, -22],
         ..PLAIN
     },
-    #[cfg(feature = "full")]
+    #[cfg(feature = "alloc")]
     Call {
         name: "alloc",
         run: |l| {
@@ -155,16 +159,16 @@ pub const CALLS: [Call; COUNT] = [
         codes: &[0, -22, -28, -84],
         ..PLAIN
     },
-    #[cfg(feature = "full")]
+    #[cfg(feature = "extend")]
     Call {
         name: "extend",
-        run: full::extend,
+        run: extend,
         changes: Changes::Image,
         given_window: true,
         codes: &[0, -22, -28, -84],
         ..PLAIN
     },
-    #[cfg(feature = "full")]
+    #[cfg(feature = "create")]
     Call {
         name: "create",
         run: |l| {
@@ -175,7 +179,7 @@ pub const CALLS: [Call; COUNT] = [
         codes: &[0, -12, -17, -22],
         ..PLAIN
     },
-    #[cfg(feature = "full")]
+    #[cfg(feature = "remove")]
     Call {
         name: "remove",
         run: |l| {
@@ -186,7 +190,7 @@ pub const CALLS: [Call; COUNT] = [
         codes: &[0, -2, -22],
         ..PLAIN
     },
-    #[cfg(feature = "full")]
+    #[cfg(feature = "size")]
     Call {
         name: "size",
         run: |l| {
@@ -196,7 +200,7 @@ pub const CALLS: [Call; COUNT] = [
         codes: &[0, -2, -22],
         ..PLAIN
     },
-    #[cfg(feature = "full")]
+    #[cfg(feature = "seek")]
     Call {
         name: "seek",
         run: |l| {
@@ -206,15 +210,15 @@ pub const CALLS: [Call; COUNT] = [
         codes: &[0, -2, -22],
         ..PLAIN
     },
-    #[cfg(feature = "full")]
+    #[cfg(feature = "save")]
     Call {
         name: "save",
-        run: full::save,
+        run: save,
         changes: Changes::Buffer,
         codes: &[0, -22],
         ..PLAIN
     },
-    #[cfg(feature = "full")]
+    #[cfg(feature = "load")]
     Call {
         name: "load",
         run: |l| {
@@ -227,34 +231,34 @@ pub const CALLS: [Call; COUNT] = [
         codes: &[0, -84],
         ..PLAIN
     },
-    #[cfg(feature = "full")]
+    #[cfg(feature = "read")]
     Call {
         name: "read",
-        run: full::read,
+        run: read,
         changes: Changes::Buffer,
         codes: &[0, -2, -22, -84],
         ..PLAIN
     },
-    #[cfg(feature = "full")]
+    #[cfg(feature = "stretch")]
     Call {
         name: "stretch",
-        run: full::stretch,
+        run: stretch,
         codes: &[0, -2, -22, -84],
         ..PLAIN
     },
-    #[cfg(feature = "full")]
+    #[cfg(feature = "write")]
     Call {
         name: "write",
-        run: full::write,
+        run: write,
         changes: Changes::Image,
         given_window: true,
         given_table: true,
         codes: &[0, -2, -22, -27, -28, -84],
     },
-    #[cfg(feature = "full")]
+    #[cfg(feature = "truncate")]
     Call {
         name: "truncate",
-        run: full::truncate,
+        run: truncate,
         changes: Changes::Image,
         given_window: true,
         given_table: true,
@@ -262,7 +266,6 @@ pub const CALLS: [Call; COUNT] = [
     },
 ];
 
-#[cfg(feature = "full")]
 fn windowed(code: i32, told: &[u32], window: Window) -> Answer {
     Answer {
         window: Some(window),
@@ -270,7 +273,6 @@ fn windowed(code: i32, told: &[u32], window: Window) -> Answer {
     }
 }
 
-#[cfg(feature = "full")]
 fn tabled(code: i32, told: &[u32], table: Table) -> Answer {
     Answer {
         table: Some(table),
@@ -278,109 +280,110 @@ fn tabled(code: i32, told: &[u32], table: Table) -> Answer {
     }
 }
 
-#[cfg(feature = "full")]
-mod full {
-    use super::*;
+#[cfg(feature = "extend")]
+fn extend(l: &mut Lent) -> Answer {
+    let told = unsafe {
+        ffi::tid_extend(
+            l.geometry,
+            l.lookahead,
+            l.image.start_mut(),
+            l.image.length(),
+            l.health.start(),
+            l.health.length(),
+            l.table,
+            l.window,
+            l.head,
+            l.size,
+        )
+    };
+    windowed(told.code, &[told.block, told.offset], told.window)
+}
 
-    pub fn extend(l: &mut Lent) -> Answer {
-        let told = unsafe {
-            ffi::tid_extend(
-                l.geometry,
-                l.lookahead,
-                l.image.start_mut(),
-                l.image.length(),
-                l.health.start(),
-                l.health.length(),
-                l.table,
-                l.window,
-                l.head,
-                l.size,
-            )
-        };
-        windowed(told.code, &[told.block, told.offset], told.window)
-    }
+/// Bytes past the saved form keep their values.
+#[cfg(feature = "save")]
+fn save(l: &mut Lent) -> Answer {
+    let before = l.buffer.bytes().to_vec();
+    let told = unsafe { ffi::tid_save(l.table, l.buffer.start_mut(), l.buffer.length()) };
+    let length = told.length as usize;
+    assert!(l.buffer.bytes()[length..] == before[length..]);
+    values(told.code, &[told.length])
+}
 
-    /// Bytes past the saved form keep their values.
-    pub fn save(l: &mut Lent) -> Answer {
-        let before = l.buffer.bytes().to_vec();
-        let told = unsafe { ffi::tid_save(l.table, l.buffer.start_mut(), l.buffer.length()) };
-        let length = told.length as usize;
-        assert!(l.buffer.bytes()[length..] == before[length..]);
-        values(told.code, &[told.length])
-    }
+/// Bytes past those read keep their values.
+#[cfg(feature = "read")]
+fn read(l: &mut Lent) -> Answer {
+    let before = l.buffer.bytes().to_vec();
+    let told = unsafe {
+        ffi::tid_read(
+            l.geometry,
+            l.image.start(),
+            l.image.length(),
+            l.table,
+            l.number,
+            l.position,
+            l.buffer.start_mut(),
+            l.buffer.length(),
+        )
+    };
+    let length = told.length as usize;
+    assert!(l.buffer.bytes()[length..] == before[length..]);
+    values(told.code, &[told.length])
+}
 
-    /// Bytes past those read keep their values.
-    pub fn read(l: &mut Lent) -> Answer {
-        let before = l.buffer.bytes().to_vec();
-        let told = unsafe {
-            ffi::tid_read(
-                l.geometry,
-                l.image.start(),
-                l.image.length(),
-                l.table,
-                l.number,
-                l.position,
-                l.buffer.start_mut(),
-                l.buffer.length(),
-            )
-        };
-        let length = told.length as usize;
-        assert!(l.buffer.bytes()[length..] == before[length..]);
-        values(told.code, &[told.length])
-    }
+/// The part lies in the image.
+#[cfg(feature = "stretch")]
+fn stretch(l: &mut Lent) -> Answer {
+    let (image, length) = (l.image.start(), l.image.length());
+    let told =
+        unsafe { ffi::tid_stretch(l.geometry, image, length, l.table, l.number, l.position) };
+    assert!(told.place as usize + told.length as usize <= length);
+    values(told.code, &[told.place, told.length])
+}
 
-    /// The part lies in the image.
-    pub fn stretch(l: &mut Lent) -> Answer {
-        let (image, length) = (l.image.start(), l.image.length());
-        let told =
-            unsafe { ffi::tid_stretch(l.geometry, image, length, l.table, l.number, l.position) };
-        assert!(told.place as usize + told.length as usize <= length);
-        values(told.code, &[told.place, told.length])
-    }
+#[cfg(feature = "write")]
+fn write(l: &mut Lent) -> Answer {
+    let told = unsafe {
+        ffi::tid_write(
+            l.geometry,
+            l.lookahead,
+            l.image.start_mut(),
+            l.image.length(),
+            l.health.start(),
+            l.health.length(),
+            l.window,
+            l.table,
+            l.number,
+            l.position,
+            l.data.start(),
+            l.data.length(),
+        )
+    };
+    stored(told)
+}
 
-    pub fn write(l: &mut Lent) -> Answer {
-        let told = unsafe {
-            ffi::tid_write(
-                l.geometry,
-                l.lookahead,
-                l.image.start_mut(),
-                l.image.length(),
-                l.health.start(),
-                l.health.length(),
-                l.window,
-                l.table,
-                l.number,
-                l.position,
-                l.data.start(),
-                l.data.length(),
-            )
-        };
-        stored(told)
-    }
+#[cfg(feature = "truncate")]
+fn truncate(l: &mut Lent) -> Answer {
+    let told = unsafe {
+        ffi::tid_truncate(
+            l.geometry,
+            l.lookahead,
+            l.image.start_mut(),
+            l.image.length(),
+            l.health.start(),
+            l.health.length(),
+            l.window,
+            l.table,
+            l.number,
+            l.size,
+        )
+    };
+    stored(told)
+}
 
-    pub fn truncate(l: &mut Lent) -> Answer {
-        let told = unsafe {
-            ffi::tid_truncate(
-                l.geometry,
-                l.lookahead,
-                l.image.start_mut(),
-                l.image.length(),
-                l.health.start(),
-                l.health.length(),
-                l.window,
-                l.table,
-                l.number,
-                l.size,
-            )
-        };
-        stored(told)
-    }
-
-    fn stored(told: ffi::Stored) -> Answer {
-        Answer {
-            window: Some(told.window),
-            table: Some(told.table),
-            ..values(told.code, &[])
-        }
+fn stored(told: ffi::Stored) -> Answer {
+    Answer {
+        window: Some(told.window),
+        table: Some(told.table),
+        ..values(told.code, &[])
     }
 }
