@@ -23,7 +23,8 @@ use Rattle.files.proofs.Tests.{leb-cases, ltb-cases}
 use Rattle.files.proofs.Laws.{held-length, held-ok, count-ok}
 use Rattle.files.proofs.Lists.{held-of, of-ok}
 use Rattle.files.proofs.Cases
-use Rattle.files.proofs.Others.{fileOf, insert-other, insert-own, without-insert, insert-length, insert-ok, without-other, without-own, without-ok, without-length, missing-none, found-some, search-insert, search-answers}
+use Rattle.files.proofs.Others.{fileOf, insert-other, insert-own, without-insert, insert-length, insert-ok, without-other, without-own, without-ok, without-length}
+use Rattle.files.proofs.Searches.{missing-none, found-some, search-insert, search-answers}
 
 -- ---- the answers of find, and the size by the file
 

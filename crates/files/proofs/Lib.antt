@@ -5,6 +5,7 @@ pub mod Turns
 pub mod Lists
 pub mod Cases
 pub mod Others
+pub mod Searches
 pub mod Kept
 pub mod Replaced
 pub mod Seeking

@@ -16,7 +16,7 @@ use Rattle.files.specs.Change.{putOf}
 use Rattle.files.proofs.Tests.{leb-cases, eqb-cases}
 use Rattle.files.proofs.Laws.{Good, first-good, rest-ok, join-ok, slots-ok, count-ok, held-ok, table-ok}
 use Rattle.files.proofs.Cases.{find-is, find-no-number, found-at, size-at, size-missing, size-refused}
-use Rattle.files.proofs.Others.{search-here, search-on}
+use Rattle.files.proofs.Searches.{search-here, search-on}
 use Rattle.files.proofs.Kept.{found-cases}
 
 -- a size and a head that can stand in a table

@@ -19,7 +19,8 @@ use Rattle.reading.specs.Codes.{placeOf, placedLength}
 use Rattle.reading.specs.Calls.{Copied, copiedOf, given, clean, bytesOf, placedOf}
 use Rattle.reading.specs.declared.Reading.the-variants as reading
 use Rattle.reading.specs.declared.Placed.the-variants as placed
-use Rattle.reading.proofs.Gathers.{never-both, all-none, Gave, copied, damaged, gave, offset-below, step}
+use Rattle.reading.proofs.Parts.{never-both}
+use Rattle.reading.proofs.Gathers.{all-none, Gave, copied, damaged, gave, offset-below, step}
 
 -- a position below the size has a run of bytes to the end behind it
 pub ranged : {B N size len : ℕ} (p n : ℕ) → Listed B N size len → p + n ≤ size → Ranged B N size p n len

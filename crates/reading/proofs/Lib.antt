@@ -1,4 +1,5 @@
 -- The laws of reading.
+pub mod Parts
 pub mod Gathers
 pub mod Inner
 pub mod Asks

@@ -12,7 +12,8 @@ use Rattle.ctz.specs.declared.Found.the-variants.{At}
 use Rattle.plain.specs.Reading.{Got, gather}
 use Rattle.reading.specs.Bounds.{Ranged}
 use Rattle.reading.specs.Calls.{clean, bytesOf}
-use Rattle.reading.proofs.Gathers.{offset-below, never-refused, Step, step, clean-turn, copy-keeps, copy-turn, all-none, all-damaged, lent-length, never-both}
+use Rattle.reading.proofs.Parts.{lent-length, never-both}
+use Rattle.reading.proofs.Gathers.{offset-below, never-refused, Step, step, clean-turn, copy-keeps, copy-turn, all-none, all-damaged}
 use Rattle.reading.proofs.list.copy_all.Statement.{statement}
 use Rattle.reading.proofs.list.copy_all.Tie as tie
 

@@ -8,7 +8,8 @@ use Rattle.ctz.specs.Lookup.{walkTo}
 use Rattle.ctz.specs.declared.Found.the-variants.{At}
 use Rattle.plain.specs.Reading.{gather}
 use Rattle.reading.specs.Calls.{clean}
-use Rattle.reading.proofs.Gathers.{offset-below, never-refused, Step, step, clean-turn, copy-keeps, copy-first, all-damaged, lent-length}
+use Rattle.reading.proofs.Parts.{lent-length}
+use Rattle.reading.proofs.Gathers.{offset-below, never-refused, Step, step, clean-turn, copy-keeps, copy-first, all-damaged}
 use Rattle.reading.proofs.Inner.{run-copied, run-damaged}
 use native.Mathlib.Omega.{arith}
 use borrow.Author.Needs.{needs}

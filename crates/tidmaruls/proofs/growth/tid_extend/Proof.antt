@@ -1,5 +1,4 @@
 -- `tidmaruls::growth::tid_extend` meets its contract: what the inner call ensures, told, and the image as that call left it. Assumes nothing.
-use mathlib.Core.Path.{ap, _∙_}
 use borrow.Author.Needs.{needs}
 use Rattle.tidmaruls.proofs.growth.tid_extend.Statement.{statement}
 use Rattle.tidmaruls.proofs.growth.tid_extend.Tie as tie

@@ -1,0 +1,231 @@
+-- write and truncate by their cases, in the order of the tests. Assumes nothing.
+use mathlib.Core.Path.{_≡_, refl, sym, ap}
+use mathlib.Core.Bool.{Bool, true, false, and-eq-true-iff}
+use mathlib.Core.List.{List, []}
+use Prim.Native.Nat.{ℕ, _+_, _-_, _≤_, _<_}
+use native.Mathlib.Nat.{le-of-eq}
+use native.Mathlib.Omega.{arith}
+use borrow.Author.Tests.{lt-ltb, le-ltb, eq-eqb, ne-eqb}
+use lib.Dec.{eqb}
+use lib.ListN.{length}
+use Rattle.card.specs.Card.{goodCard}
+use Rattle.card.proofs.Cards.{card}
+use Rattle.device.specs.Health.{healthOk}
+use Rattle.device.proofs.Health.{healthy}
+use Rattle.ctz.specs.declared.Found.{Found}
+use Rattle.ctz.specs.declared.Found.the-variants as found
+use Rattle.ctz.specs.Lookup.{walkTo}
+use Rattle.files.specs.declared.Table.{Table}
+use Rattle.files.specs.declared.Found.the-variants as place
+use Rattle.files.specs.Table.{filesMax, sizeMax, nullBlock, file}
+use Rattle.files.specs.Find.{findOf}
+use Rattle.files.specs.Change.{putOf}
+use Rattle.files.proofs.Laws.{table-valid, count-ok}
+use Rattle.files.proofs.Cases.{found-at}
+use Rattle.window.specs.declared.Lookahead.{Lookahead}
+use Rattle.window.specs.Value.{lookaheadFits, validOf}
+use Rattle.alloc.proofs.Tested.{ready}
+use Rattle.store.specs.declared.Outcome.{Outcome}
+use Rattle.store.specs.declared.Outcome.the-variants as outcome
+use Rattle.store.specs.declared.Stored.{Stored}
+use Rattle.store.specs.declared.Writing as declared
+use Rattle.store.specs.declared.Writing.the-variants as writing
+use Rattle.store.specs.declared.Wrote.{Wrote}
+use Rattle.store.specs.Write.{Writing, Written, NoRoom, Corrupt, WriteOut}
+use Rattle.store.specs.Store.{StoreOut, left, written, writtenOf, puts, storeWrite, shrunk, shrinks, storeTruncate}
+use Rattle.store.specs.Put.{wroteOf, WroteGives, Putting, finishOf}
+use Rattle.store.specs.Calls.{testedOf, StoreGives, Shrinking}
+use Rattle.store.proofs.Puts.{puts-as-gap}
+
+pub gives : {o : StoreOut} (a : Outcome) (w : Lookahead) (t : Table) (image : List ℕ) → o ≡ left a w t image
+    → StoreGives o (record { answer = a; window = w; table = t }) image
+gives a w t image e = rw e (record { stored = refl; image = refl })
+
+-- ---- the tests
+
+module _ (B N l len : ℕ) (health : List ℕ) (w : Lookahead) where
+  pub no-card : goodCard B N len ≡ false → false ≡ testedOf B N l len health w
+  unfolding testedOf
+  no-card e = rw (testedOf, e)
+
+  module _ (a : goodCard B N len ≡ true) where
+    pub no-health : healthOk health N ≡ false → false ≡ testedOf B N l len health w
+    unfolding testedOf
+    no-health e = rw (testedOf, a, e)
+
+    module _ (b : healthOk health N ≡ true) where
+      pub no-lookahead : lookaheadFits l ≡ false → false ≡ testedOf B N l len health w
+      unfolding testedOf
+      no-lookahead e = rw (testedOf, a, b, e)
+
+      pub last-test : {r : Bool} → lookaheadFits l ≡ true → r ≡ validOf w N l → r ≡ testedOf B N l len health w
+      unfolding testedOf
+      last-test c e = rw (testedOf, a, b, c) e
+
+-- ---- the table changes last
+
+pub finish-written : (t : Table) (i h s : ℕ) {a : declared.Writing} {u : Table} (w : Lookahead) → a ≡ writing.Written h s → u ≡ putOf t i s h
+    → record { answer = outcome.Done; window = w; table = u } ≡ finishOf t i a w
+finish-written t i h s w e f = rw (e, f)
+
+pub finish-full : (t : Table) (i : ℕ) {a : declared.Writing} (w : Lookahead) → a ≡ writing.NoRoom
+    → record { answer = outcome.Full; window = w; table = t } ≡ finishOf t i a w
+finish-full t i w e = rw e
+
+pub finish-lost : (t : Table) (i : ℕ) {a : declared.Writing} (w : Lookahead) → a ≡ writing.Corrupt
+    → record { answer = outcome.Damaged; window = w; table = t } ≡ finishOf t i a w
+finish-lost t i w e = rw e
+
+pub finishes : (t : Table) (i : ℕ) {o : WriteOut Lookahead} {r : Wrote} {after : List ℕ} {s : Stored} → WroteGives o r after
+    → s ≡ finishOf t i (r .answer) (r .window) → StoreGives (writtenOf t i o) s after
+finishes t i {o} {r} {after} {s} g e = rw (e, g .answer, g .window, g .image) (go (o .answer))
+  where
+    go : (a : Writing) → StoreGives (written t i a (o .rest) (o .image)) (finishOf t i (wroteOf a) (o .rest)) (o .image)
+    go (Written h z) = record { stored = refl; image = refl }
+    go NoRoom = record { stored = refl; image = refl }
+    go Corrupt = record { stored = refl; image = refl }
+
+-- ---- behind the tests
+
+pub record Tests (B N l : ℕ) (image health : List ℕ) (w : Lookahead) : Type 0 where
+  pub card : goodCard B N (length image) ≡ true
+  pub healths : healthOk health N ≡ true
+  pub lookahead : lookaheadFits l ≡ true
+  pub window : validOf w N l ≡ true
+
+pub tests : (B N l : ℕ) (image health : List ℕ) (w : Lookahead) → testedOf B N l (length image) health w ≡ true → Tests B N l image health w
+unfolding testedOf
+tests B N l image health w e =
+    let c = and-eq-true-iff _ (validOf w N l) .0 e in
+    let b = and-eq-true-iff _ (lookaheadFits l) .0 (c .0) in
+    let a = and-eq-true-iff _ (healthOk health N) .0 (b .0) in
+    record { card = a .0; healths = a .1; lookahead = b .1; window = c .1 }
+
+module _ (B N l : ℕ) (image health : List ℕ) (w : Lookahead) (t : Table) (number i : ℕ) (e : testedOf B N l (length image) health w ≡ true)
+    (f : findOf t number ≡ place.At i) where
+  pub slot : i < filesMax
+  slot = omega (arith, found-at t number i f .below, count-ok t (found-at t number i f .ok))
+
+  pub file-most : file t i .size ≤ sizeMax
+  file-most = table-valid t (found-at t number i f .ok) .size-le i (found-at t number i f .below)
+
+  pub putting : (pos : ℕ) (src : List ℕ) → pos + length src ≤ sizeMax → Putting B N l image health t w (file t i) pos src
+  putting pos src h =
+      let a = tests B N l image health w e in
+      record {
+        ready = ready B N l (length image) t w (a .card) (a .lookahead) (a .window) (found-at t number i f .ok);
+        known = le-of-eq (sym (healthy health N (a .healths) .count));
+        most = file-most;
+        fits = h;
+      }
+
+  pub shrinking : (size : ℕ) → size < file t i .size → Shrinking B N (length image) t i size
+  shrinking size h = record { card = card B N (length image) (tests B N l image health w e .card); slot = slot; most = file-most; below = h }
+
+-- ---- write
+
+module _ (B N l : ℕ) (image health : List ℕ) (w : Lookahead) (t : Table) (number p : ℕ) (src : List ℕ) where
+  pub write-untested : testedOf B N l (length image) health w ≡ false → storeWrite B N l image health w t number p src ≡ left outcome.Refused w t image
+  unfolding storeWrite testedOf
+  write-untested e = rw (storeWrite, e)
+
+  module _ (e : testedOf B N l (length image) health w ≡ true) where
+    pub write-no-table : findOf t number ≡ place.Refused → storeWrite B N l image health w t number p src ≡ left outcome.Refused w t image
+    unfolding storeWrite testedOf
+    write-no-table f = rw (storeWrite, e, f)
+
+    pub write-missing : findOf t number ≡ place.Missing → storeWrite B N l image health w t number p src ≡ left outcome.Missing w t image
+    unfolding storeWrite testedOf
+    write-missing f = rw (storeWrite, e, f)
+
+    module _ (i : ℕ) (f : findOf t number ≡ place.At i) where
+      pub write-far : sizeMax < p → storeWrite B N l image health w t number p src ≡ left outcome.Refused w t image
+      unfolding storeWrite testedOf
+      write-far h = rw (storeWrite, e, f, lt-ltb sizeMax p h)
+
+      module _ (h : p ≤ sizeMax) where
+        pub write-large : sizeMax < p + length src → storeWrite B N l image health w t number p src ≡ left outcome.TooLarge w t image
+        unfolding storeWrite testedOf
+        write-large m = rw (storeWrite, e, f, le-ltb sizeMax p h, lt-ltb sizeMax (p + length src) m)
+
+        module _ (m : p + length src ≤ sizeMax) where
+          pub write-none : length src ≡ 0 → storeWrite B N l image health w t number p src ≡ left outcome.Done w t image
+          unfolding storeWrite testedOf
+          write-none z = rw (storeWrite, e, f, le-ltb sizeMax p h, le-ltb sizeMax (p + length src) m, eq-eqb (length src) 0 z)
+
+          pub write-some : (length src ≡ 0 → ⊥)
+              → storeWrite B N l image health w t number p src ≡ writtenOf t i (puts B N l health t (file t i) p src w image)
+          unfolding storeWrite testedOf
+          write-some z = rw (storeWrite, e, f, le-ltb sizeMax p h, le-ltb sizeMax (p + length src) m, ne-eqb (length src) 0 z)
+
+-- ---- truncate
+
+module _ (B N : ℕ) (image : List ℕ) (w : Lookahead) (t : Table) (i size : ℕ) where
+  pub shrinks-empty : {u : Table} → size ≡ 0 → u ≡ putOf t i 0 nullBlock
+      → record { answer = outcome.Done; window = w; table = u } ≡ shrinks B N image w t i size .stored
+  unfolding shrinks
+  shrinks-empty z f = rw (shrinks, eq-eqb size 0 z, f)
+
+  module _ (z : size ≡ 0 → ⊥) {x : Found} (g : x ≡ walkTo image B N (file t i .head) (file t i .size) (size - 1)) where
+    pub shrinks-found : (k off hops : ℕ) {u : Table} → x ≡ found.At k off hops → u ≡ putOf t i size k
+        → record { answer = outcome.Done; window = w; table = u } ≡ shrinks B N image w t i size .stored
+    unfolding shrinks
+    shrinks-found k off hops e f = rw (shrinks, ne-eqb size 0 z, ← g, e, f)
+
+    pub shrinks-damaged : x ≡ found.Damaged → record { answer = outcome.Damaged; window = w; table = t } ≡ shrinks B N image w t i size .stored
+    unfolding shrinks
+    shrinks-damaged e = rw (shrinks, ne-eqb size 0 z, ← g, e)
+
+    pub shrinks-refused : x ≡ found.Refused → record { answer = outcome.Damaged; window = w; table = t } ≡ shrinks B N image w t i size .stored
+    unfolding shrinks
+    shrinks-refused e = rw (shrinks, ne-eqb size 0 z, ← g, e)
+
+  -- card and window stay as they were
+  pub shrinks-image : shrinks B N image w t i size .image ≡ image
+  unfolding shrinks
+  shrinks-image = go (eqb size 0) (walkTo image B N (file t i .head) (file t i .size) (size - 1))
+    where
+      pick : Bool → Found → StoreOut
+      pick b x = elim b [ true ↦ left outcome.Done w (putOf t i 0 nullBlock) image | false ↦ shrunk t i size w image x ]
+
+      go : (b : Bool) (x : Found) → pick b x .image ≡ image
+      go true x = refl
+      go false (found.At k off hops) = refl
+      go false found.Damaged = refl
+      go false found.Refused = refl
+
+module _ (B N l : ℕ) (image health : List ℕ) (w : Lookahead) (t : Table) (number size : ℕ) where
+  pub truncate-untested : testedOf B N l (length image) health w ≡ false → storeTruncate B N l image health w t number size ≡ left outcome.Refused w t image
+  unfolding storeTruncate testedOf
+  truncate-untested e = rw (storeTruncate, e)
+
+  module _ (e : testedOf B N l (length image) health w ≡ true) where
+    pub truncate-no-table : findOf t number ≡ place.Refused → storeTruncate B N l image health w t number size ≡ left outcome.Refused w t image
+    unfolding storeTruncate testedOf
+    truncate-no-table f = rw (storeTruncate, e, f)
+
+    pub truncate-missing : findOf t number ≡ place.Missing → storeTruncate B N l image health w t number size ≡ left outcome.Missing w t image
+    unfolding storeTruncate testedOf
+    truncate-missing f = rw (storeTruncate, e, f)
+
+    module _ (i : ℕ) (f : findOf t number ≡ place.At i) where
+      pub truncate-far : sizeMax < size → storeTruncate B N l image health w t number size ≡ left outcome.Refused w t image
+      unfolding storeTruncate testedOf
+      truncate-far h = rw (storeTruncate, e, f, lt-ltb sizeMax size h)
+
+      module _ (h : size ≤ sizeMax) where
+        pub truncate-shrinks : size < file t i .size → storeTruncate B N l image health w t number size ≡ shrinks B N image w t i size
+        unfolding storeTruncate testedOf
+        truncate-shrinks m = rw (storeTruncate, e, f, le-ltb sizeMax size h, lt-ltb size (file t i .size) m)
+
+        module _ (m : file t i .size ≤ size) where
+          pub truncate-same : size ≡ file t i .size → storeTruncate B N l image health w t number size ≡ left outcome.Done w t image
+          unfolding storeTruncate testedOf
+          truncate-same z = rw (storeTruncate, e, f, le-ltb sizeMax size h, le-ltb size (file t i .size) m, eq-eqb size (file t i .size) z)
+
+          pub truncate-grows : (size ≡ file t i .size → ⊥)
+              → storeTruncate B N l image health w t number size ≡ writtenOf t i (puts B N l health t (file t i) size [] w image)
+          unfolding storeTruncate testedOf
+          truncate-grows z =
+              rw (storeTruncate, e, f, le-ltb sizeMax size h, le-ltb size (file t i .size) m, ne-eqb size (file t i .size) z)
+              (ap (writtenOf t i) (puts-as-gap B N l health t (file t i) size w image m))

@@ -1,0 +1,9 @@
+-- The laws of the store.
+pub mod Index
+pub mod Looks
+pub mod Fills
+pub mod Turns
+pub mod Goes
+pub mod Gaps
+pub mod Puts
+pub mod Calls

@@ -1,0 +1,31 @@
+-- `store::finish` meets its contract, case by case. Assumes nothing.
+use Rattle.store.proofs.Calls.{finish-written, finish-full, finish-lost}
+use borrow.Author.Needs.{needs}
+use Rattle.store.proofs.finish.Statement.{statement}
+use Rattle.store.proofs.finish.Tie as tie
+
+enum-known-answer : tie.Need-enum-known-answer
+enum-known-answer c = search needs
+
+put-requires : tie.Need-put-requires
+put-requires c κs = search needs
+
+enum-told : tie.Need-enum-told
+enum-told c = search needs
+
+enum-told-2 : tie.Need-enum-told-2
+enum-told-2 c = search needs
+
+returns : tie.Need-returns
+returns c = finish-written _ _ _ _ _ (c .before .before .answer .given .1) (c .put .ensures)
+
+returns-2 : tie.Need-returns-2
+returns-2 c = finish-full _ (c .before .before .before .args .i) _ (c .enum-told .given .1)
+
+returns-3 : tie.Need-returns-3
+returns-3 c = finish-lost _ (c .before .before .before .args .i) _ (c .enum-told2 .given .1)
+
+pub finish-spec : {M : Type 1} → statement M
+finish-spec =
+    tie.close
+    (tie.spec enum-known-answer put-requires enum-told enum-told-2 returns returns-2 returns-3)

@@ -1,0 +1,62 @@
+-- `store::first_head` meets its contract: by where q lies, the block of byte q - 1 is the last one that is looked for. Assumes nothing.
+use mathlib.Core.Path.{sym, _∙_}
+use mathlib.Core.Logic.{⊎-elim}
+use Rattle.layout.proofs.Served.{served}
+use Rattle.store.specs.Store.{lookIn}
+use Rattle.store.proofs.Looks.{look-same, told-block, told-lost, head-none, head-lost, head-inside, head-border, head-first}
+use borrow.Author.Needs.{needs}
+use native.Mathlib.Omega.{arith}
+use Rattle.store.proofs.first_head.Statement.{statement}
+use Rattle.store.proofs.first_head.Tie as tie
+
+returns : tie.Need-returns
+returns c =
+    head-none (lookIn (c .before .before .args .b) (c .before .before .args .n) (c .before .before .args .e)) (c .before .before .args .image .now) (c .before .before .args .b) (c .before .before .args .q) (c .if1 .taken)
+
+block-start-requires : tie.Need-block-start-requires
+block-start-requires c κs = search needs
+
+sub-look : tie.Need-sub-look
+sub-look c = search needs
+
+look-requires : tie.Need-look-requires
+look-requires c κs = search needs
+
+enum-told : tie.Need-enum-told
+enum-told c = search needs
+
+enum-told-2 : tie.Need-enum-told-2
+enum-told-2 c = search needs
+
+returns-2 : tie.Need-returns-2
+returns-2 c =
+    head-lost (lookIn (c .before .before .before .before .before .before .before .before .args .b) (c .before .before .before .before .before .before .before .before .args .n) (c .before .before .before .before .before .before .before .before .args .e)) (c .before .before .before .before .before .before .before .before .args .image .now) (c .before .before .before .before .before .before .before .before .args .b) (c .before .before .before .before .before .before .before .before .args .q) (served (c .before .before .before .before .before .before .before .before .pre .0 .card .sized) (omega arith)) (look-same (c .before .before .before .before .before .before .before .before .args .b) (c .before .before .before .before .before .before .before .before .args .n) (c .before .before .before .before .before .before .before .before .args .e) (c .before .before .before .before .before .before .before .before .args .image .now)) _ (c .before .before .before .before .before .block-start .ensures) (c .before .before .before .before .if2 .taken) (c .before .before .before .if3 .taken) (told-lost _ (sym (c .before .before .look .ensures) ∙ c .enum-told2 .given .1))
+
+sub-look-2 : tie.Need-sub-look-2
+sub-look-2 c = search needs
+
+look-requires-2 : tie.Need-look-requires-2
+look-requires-2 c κs = search needs
+
+returns-3 : tie.Need-returns-3
+returns-3 c =
+    c .look2 .ensures ∙ ⊎-elim
+    (λ w. head-inside (lookIn (c .before .before .before .before .before .args .b) (c .before .before .before .before .before .args .n) (c .before .before .before .before .before .args .e)) (c .before .before .before .before .before .args .image .now) (c .before .before .before .before .before .args .b) (c .before .before .before .before .before .args .q) (served (c .before .before .before .before .before .pre .0 .card .sized) (omega arith)) (look-same (c .before .before .before .before .before .args .b) (c .before .before .before .before .before .args .n) (c .before .before .before .before .before .args .e) (c .before .before .before .before .before .args .image .now)) _ (c .before .before .block-start .ensures) _ (w .0 .taken) (w .1 .taken) (told-block _ _ (sym (w .2 .ensures) ∙ w .4 .given .1)))
+    (λ v. ⊎-elim
+    (λ w. head-border (lookIn (c .before .before .before .before .before .args .b) (c .before .before .before .before .before .args .n) (c .before .before .before .before .before .args .e)) (c .before .before .before .before .before .args .image .now) (c .before .before .before .before .before .args .b) (c .before .before .before .before .before .args .q) (served (c .before .before .before .before .before .pre .0 .card .sized) (omega arith)) (look-same (c .before .before .before .before .before .args .b) (c .before .before .before .before .before .args .n) (c .before .before .before .before .before .args .e) (c .before .before .before .before .before .args .image .now)) _ (c .before .before .block-start .ensures) (w .0 .taken) (w .1 .left))
+    (λ w. head-first (lookIn (c .before .before .before .before .before .args .b) (c .before .before .before .before .before .args .n) (c .before .before .before .before .before .args .e)) (c .before .before .before .before .before .args .image .now) (c .before .before .before .before .before .args .b) (c .before .before .before .before .before .args .q) (served (c .before .before .before .before .before .pre .0 .card .sized) (omega arith)) (look-same (c .before .before .before .before .before .args .b) (c .before .before .before .before .before .args .n) (c .before .before .before .before .before .args .e) (c .before .before .before .before .before .args .image .now)) _ (c .before .before .block-start .ensures) (w .left) (omega (arith, c .before .before .before .if1 .left))) v) (c .before .if2 .came)
+
+pub first-head-spec : {M : Type 1} → statement M
+first-head-spec =
+    tie.close
+    (tie.spec
+    returns
+    block-start-requires
+    sub-look
+    look-requires
+    enum-told
+    enum-told-2
+    returns-2
+    sub-look-2
+    look-requires-2
+    returns-3)

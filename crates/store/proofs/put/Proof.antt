@@ -1,0 +1,77 @@
+-- `store::put` meets its contract: a block that is not found ends it, else the growths give what it gives. Assumes nothing.
+use Rattle.store.proofs.Puts.{putting-look, putting-on, put-lost, put-tailless, put-goes}
+use borrow.Author.Needs.{needs}
+use native.Mathlib.Omega.{arith}
+use Rattle.store.proofs.put.Statement.{statement}
+use Rattle.store.proofs.put.Tie as tie
+
+alloc-ckpoint-requires : tie.Need-alloc-ckpoint-requires
+alloc-ckpoint-requires c κs = search needs
+
+least-requires : tie.Need-least-requires
+least-requires c κs = search needs
+
+first-head-requires : tie.Need-first-head-requires
+first-head-requires c κs =
+    (putting-look (c .before .before .before .before .before .before .pre), omega (arith, c .before .least .ensures))
+
+enum-known-first : tie.Need-enum-known-first
+enum-known-first c = search needs
+
+cast-tail-looked : tie.Need-cast-tail-looked
+cast-tail-looked c = search needs
+
+add-tail-looked : tie.Need-add-tail-looked
+add-tail-looked c = search needs
+
+tail-looked-requires : tie.Need-tail-looked-requires
+tail-looked-requires c κs =
+    (putting-look (c .before .before .before .before .before .before .before .before .before .before .before .pre), c .before .before .before .before .before .before .before .before .before .before .before .pre .fits)
+
+write-on-requires : tie.Need-write-on-requires
+write-on-requires c κs =
+    putting-on (c .before .before .before .before .before .before .before .before .before .before .before .before .before .before .pre) (c .before .before .before .before .before .before .before .before .before .before .alloc-ckpoint .ensures)
+
+same-length : tie.Need-same-length
+same-length c = search needs
+
+returns : tie.Need-returns
+returns c =
+    put-goes (c .before .before .before .before .before .before .before .before .before .before .before .before .before .before .before .before .before .pre) (c .before .before .before .before .before .before .before .before .before .before .before .before .before .alloc-ckpoint .ensures) (c .before .before .before .before .before .before .before .before .before .before .before .before .least .ensures) (c .before .before .before .before .before .before .before .before .before .before .first-head .ensures) (c .before .before .before .before .before .before .before .before .first .given .1) (c .before .before .before .before .before .tail-looked .ensures) (c .before .before .before .before .if1 .taken) (c .before .before .write-on .ensures)
+
+enum-told : tie.Need-enum-told
+enum-told c = search needs
+
+same-length-2 : tie.Need-same-length-2
+same-length-2 c = search needs
+
+returns-2 : tie.Need-returns-2
+returns-2 c =
+    put-tailless (c .before .before .before .before .before .before .before .before .before .before .before .before .before .pre) (c .before .before .before .before .before .before .before .before .before .alloc-ckpoint .ensures) (c .before .before .before .before .before .before .before .before .least .ensures) (c .before .before .before .before .before .before .first-head .ensures) (c .before .before .before .before .first .given .1) (c .before .tail-looked .ensures) (c .if1 .left)
+
+same-length-3 : tie.Need-same-length-3
+same-length-3 c = search needs
+
+returns-3 : tie.Need-returns-3
+returns-3 c =
+    put-lost (c .before .before .before .before .before .before .before .before .before .pre) (c .before .before .before .before .before .alloc-ckpoint .ensures) (c .before .before .before .before .least .ensures) (c .before .before .first-head .ensures) (c .enum-told .given .1)
+
+pub put-spec : {M : Type 1} → statement M
+put-spec =
+    tie.close
+    (tie.spec
+    alloc-ckpoint-requires
+    least-requires
+    first-head-requires
+    enum-known-first
+    cast-tail-looked
+    add-tail-looked
+    tail-looked-requires
+    write-on-requires
+    same-length
+    returns
+    enum-told
+    same-length-2
+    returns-2
+    same-length-3
+    returns-3)

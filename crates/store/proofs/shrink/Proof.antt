@@ -1,0 +1,66 @@
+-- `store::shrink` meets its contract: by the lookup of the last byte that is kept. Assumes nothing.
+use Rattle.store.proofs.Calls.{shrinks-empty, shrinks-found, shrinks-damaged, shrinks-refused}
+use borrow.Author.Needs.{needs}
+use Rattle.store.proofs.shrink.Statement.{statement}
+use Rattle.store.proofs.shrink.Tie as tie
+
+put-requires : tie.Need-put-requires
+put-requires c κs = search needs
+
+returns : tie.Need-returns
+returns c =
+    shrinks-empty (c .before .before .before .args .b) (c .before .before .before .args .n) (c .before .before .before .args .image .now) (c .before .before .before .args .w) (c .before .before .before .args .t5) (c .before .before .before .args .i) (c .before .before .before .args .size) (c .before .if1 .taken) (c .put .ensures)
+
+mul-e : tie.Need-mul-e
+mul-e c = search needs
+
+element-copy-out-e : tie.Need-element-copy-out-e
+element-copy-out-e c = search needs
+
+sub-find-in : tie.Need-sub-find-in
+sub-find-in c = search needs
+
+find-in-requires : tie.Need-find-in-requires
+find-in-requires c κs = search needs
+
+enum-known-found : tie.Need-enum-known-found
+enum-known-found c = search needs
+
+put-requires-2 : tie.Need-put-requires-2
+put-requires-2 c κs = search needs
+
+enum-told : tie.Need-enum-told
+enum-told c = search needs
+
+enum-told-2 : tie.Need-enum-told-2
+enum-told-2 c = search needs
+
+returns-2 : tie.Need-returns-2
+returns-2 c =
+    shrinks-found (c .before .before .before .before .before .before .before .before .args .b) (c .before .before .before .before .before .before .before .before .args .n) (c .before .before .before .before .before .before .before .before .args .image .now) (c .before .before .before .before .before .before .before .before .args .w) (c .before .before .before .before .before .before .before .before .args .t5) (c .before .before .before .before .before .before .before .before .args .i) (c .before .before .before .before .before .before .before .before .args .size) (c .before .before .before .before .before .before .if1 .left) (c .before .before .before .before .find-in .ensures) _ _ _ (c .before .before .found .given .1) (c .put2 .ensures)
+
+returns-3 : tie.Need-returns-3
+returns-3 c =
+    shrinks-damaged (c .before .before .before .before .before .before .args .b) (c .before .before .before .before .before .before .args .n) (c .before .before .before .before .before .before .args .image .now) (c .before .before .before .before .before .before .args .w) (c .before .before .before .before .before .before .args .t5) (c .before .before .before .before .before .before .args .i) (c .before .before .before .before .before .before .args .size) (c .before .before .before .before .if1 .left) (c .before .before .find-in .ensures) (c .enum-told .given .1)
+
+returns-4 : tie.Need-returns-4
+returns-4 c =
+    shrinks-refused (c .before .before .before .before .before .before .args .b) (c .before .before .before .before .before .before .args .n) (c .before .before .before .before .before .before .args .image .now) (c .before .before .before .before .before .before .args .w) (c .before .before .before .before .before .before .args .t5) (c .before .before .before .before .before .before .args .i) (c .before .before .before .before .before .before .args .size) (c .before .before .before .before .if1 .left) (c .before .before .find-in .ensures) (c .enum-told2 .given .1)
+
+pub shrink-spec : {M : Type 1} → statement M
+shrink-spec =
+    tie.close
+    (tie.spec
+    put-requires
+    returns
+    mul-e
+    element-copy-out-e
+    sub-find-in
+    find-in-requires
+    enum-known-found
+    put-requires-2
+    enum-told
+    enum-told-2
+    returns-2
+    returns-3
+    returns-4)

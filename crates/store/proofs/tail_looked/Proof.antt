@@ -1,0 +1,86 @@
+-- `store::tail_looked` meets its contract: what is left to look for equals the whole. Assumes nothing.
+use mathlib.Core.Path.{_≡_, refl, sym, ap, _∙_}
+use Prim.Native.Nat.{ℕ, _+_, _-_}
+use Rattle.layout.proofs.Places.{offset-inside}
+use Rattle.layout.proofs.Served.{served, index-in}
+use Rattle.store.specs.Write.{looked}
+use Rattle.store.specs.Store.{lookIn}
+use Rattle.store.specs.Lookups.{tailWanted}
+use Rattle.store.proofs.Looks.{look-same, told-block, told-lost, tail-lost, tail-turn, tail-end}
+use borrow.Author.Needs.{needs}
+use native.Mathlib.Omega.{arith}
+use Rattle.store.proofs.tail_looked.Statement.{statement}
+use Rattle.store.proofs.tail_looked.Tie as tie
+
+abbrev Inv-loop : tie.InvT-loop
+Inv-loop b n image e from size p₀ p =
+    looked (lookIn b n e) image (tailWanted b p₀ size) ≡ looked (lookIn b n e) image (tailWanted b p size)
+
+abbrev μ-loop : tie.MeasureT-loop
+μ-loop b n image e from size p₀ p = size - p
+
+loop-holds : tie.Need-loop-holds Inv-loop μ-loop
+loop-holds c = refl
+
+look-requires : tie.Need-look-requires Inv-loop μ-loop
+look-requires c κs = (c .before .before .before .pre .0, c .loop-test .taken)
+
+enum-told : tie.Need-enum-told Inv-loop μ-loop
+enum-told c = search needs
+
+enum-told-2 : tie.Need-enum-told-2 Inv-loop μ-loop
+enum-told-2 c = search needs
+
+returns : tie.Need-returns Inv-loop μ-loop
+returns c =
+    tail-lost (lookIn (c .before .before .before .before .before .before .args .b) (c .before .before .before .before .before .before .args .n) (c .before .before .before .before .before .before .args .e)) (c .before .before .before .before .before .before .args .image .now) (c .before .before .before .before .before .before .args .b) _ (c .before .before .before .before .loop .p) (served (c .before .before .before .before .before .before .pre .0 .card .sized) (omega (arith, c .before .before .before .loop-test .taken, c .before .before .before .before .before .before .pre .0 .most))) (λ r. look-same (c .before .before .before .before .before .before .args .b) (c .before .before .before .before .before .before .args .n) (c .before .before .before .before .before .before .args .e) (c .before .before .before .before .before .before .args .image .now) r (c .before .before .before .before .loop .p)) (c .before .before .before .loop-test .taken) (told-lost _ (sym (c .before .before .look .ensures) ∙ c .enum-told2 .given .1))
+    ∙ sym (c .before .before .before .before .loop .inv)
+
+index-at-requires : tie.Need-index-at-requires Inv-loop μ-loop
+index-at-requires c κs =
+    served (c .before .before .before .before .before .before .pre .0 .card .sized) (omega (arith, c .before .before .before .loop-test .taken, c .before .before .before .before .before .before .pre .0 .most))
+
+offset-at-requires : tie.Need-offset-at-requires Inv-loop μ-loop
+offset-at-requires c κs =
+    record { served = served (c .before .before .before .before .before .before .before .pre .0 .card .sized) (omega (arith, c .before .before .before .before .loop-test .taken, c .before .before .before .before .before .before .before .pre .0 .most)); index = c .index-at .ensures }
+
+sub-p : tie.Need-sub-p Inv-loop μ-loop
+sub-p c =
+    omega (arith, c .offset-at .ensures, offset-inside (c .before .before .before .before .before .before .before .before .args .b) (c .before .before .before .before .before .before .loop .p) (index-in (served (c .before .before .before .before .before .before .before .before .pre .0 .card .sized) (omega (arith, c .before .before .before .before .before .loop-test .taken, c .before .before .before .before .before .before .before .before .pre .0 .most)))))
+
+add-p : tie.Need-add-p Inv-loop μ-loop
+add-p c =
+    omega (arith, c .offset-at .ensures, c .before .before .before .before .before .loop-test .taken, c .before .before .before .before .before .before .before .before .pre .0 .most, c .before .before .before .before .before .before .before .before .pre .0 .card .high)
+
+loop-less : tie.Need-loop-less Inv-loop μ-loop
+loop-less c =
+    omega (arith, c .before .before .before .before .before .loop-test .taken, c .offset-at .ensures, offset-inside (c .before .before .before .before .before .before .before .before .args .b) (c .before .before .before .before .before .before .loop .p) (index-in (served (c .before .before .before .before .before .before .before .before .pre .0 .card .sized) (omega (arith, c .before .before .before .before .before .loop-test .taken, c .before .before .before .before .before .before .before .before .pre .0 .most)))))
+
+loop-again : tie.Need-loop-again Inv-loop μ-loop
+loop-again c =
+    c .before .before .before .before .before .before .loop .inv
+    ∙ tail-turn (lookIn (c .before .before .before .before .before .before .before .before .args .b) (c .before .before .before .before .before .before .before .before .args .n) (c .before .before .before .before .before .before .before .before .args .e)) (c .before .before .before .before .before .before .before .before .args .image .now) (c .before .before .before .before .before .before .before .before .args .b) _ (c .before .before .before .before .before .before .loop .p) (served (c .before .before .before .before .before .before .before .before .pre .0 .card .sized) (omega (arith, c .before .before .before .before .before .loop-test .taken, c .before .before .before .before .before .before .before .before .pre .0 .most))) (λ r. look-same (c .before .before .before .before .before .before .before .before .args .b) (c .before .before .before .before .before .before .before .before .args .n) (c .before .before .before .before .before .before .before .before .args .e) (c .before .before .before .before .before .before .before .before .args .image .now) r (c .before .before .before .before .before .before .loop .p)) (c .before .before .before .before .before .loop-test .taken) _ _ (told-block _ _ (sym (c .before .before .before .before .look .ensures) ∙ c .before .before .enum-told .given .1))
+    (ap (λ (o : ℕ). c .before .before .before .before .before .before .loop .p + (c .before .before .before .before .before .before .before .before .args .b - o)) (c .offset-at .ensures)) (omega (arith, c .before .before .before .before .before .loop-test .taken, c .before .before .before .before .before .before .before .before .pre .0 .most, c .before .before .before .before .before .before .before .before .pre .0 .card .high))
+
+returns-2 : tie.Need-returns-2 Inv-loop μ-loop
+returns-2 c =
+    tail-end (lookIn (c .before .before .before .args .b) (c .before .before .before .args .n) (c .before .before .before .args .e)) (c .before .before .before .args .image .now) (c .before .before .before .args .b) _ (c .before .loop .p) (c .loop-test .left) ∙ sym (c .before .loop .inv)
+
+pub tail-looked-spec : {M : Type 1} → statement M
+tail-looked-spec =
+    tie.close
+    (tie.spec
+    Inv-loop
+    μ-loop
+    loop-holds
+    look-requires
+    enum-told
+    enum-told-2
+    returns
+    index-at-requires
+    offset-at-requires
+    sub-p
+    add-p
+    loop-less
+    loop-again
+    returns-2)

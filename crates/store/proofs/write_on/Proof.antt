@@ -1,0 +1,142 @@
+-- `store::write_on` meets its contract: what is left to do equals the whole write (`Rest`), and each growth lowers the checkpoint count. Assumes nothing.
+use Rattle.store.proofs.Goes.{Rest, rest-start, rest-extends, rest-fills, falls, goes-on, moves-on, ends-done, ends-full, ends-damaged, ends-refused, ends-lost, loop-new, loop-end}
+use borrow.Author.Needs.{needs}
+use Rattle.store.proofs.write_on.Statement.{statement}
+use Rattle.store.proofs.write_on.Tie as tie
+
+abbrev Inv-loop : tie.InvT-loop
+Inv-loop b n l image₀ health t e pos «data» head size over new window₀ h₀ s₀ image window h s =
+    Rest b n l health t e pos «data» window₀ h₀ s₀ image₀ window h s image
+
+abbrev μ-loop : tie.MeasureT-loop
+μ-loop b n l image₀ health t e pos «data» head size over new window₀ h₀ s₀ image window h s = window .ckpoint
+
+cast-over : tie.Need-cast-over Inv-loop μ-loop
+cast-over c = search needs
+
+add-over : tie.Need-add-over Inv-loop μ-loop
+add-over c = search needs
+
+beyond-requires : tie.Need-beyond-requires Inv-loop μ-loop
+beyond-requires c κs = search needs
+
+add-new : tie.Need-add-new Inv-loop μ-loop
+add-new c = search needs
+
+loop-holds : tie.Need-loop-holds Inv-loop μ-loop
+loop-holds c = rest-start (c .before .before .before .before .before .pre) _ _
+
+extend-in-requires : tie.Need-extend-in-requires Inv-loop μ-loop
+extend-in-requires c κs =
+    rest-extends (c .before .before .before .before .before .before .before .before .pre) (c .before .before .loop .inv) (loop-new (c .before .before .before .before .before .before .before .before .pre) (c .before .before .before .before .beyond .ensures) (c .before .loop-test .taken))
+
+enum-known-answer : tie.Need-enum-known-answer Inv-loop μ-loop
+enum-known-answer c = search needs
+
+fill-block-requires : tie.Need-fill-block-requires Inv-loop μ-loop
+fill-block-requires c κs =
+    rest-fills (c .before .before .before .before .before .before .before .before .before .before .before .before .before .before .before .before .pre) (c .before .before .before .before .before .before .before .before .before .before .loop .inv) (loop-new (c .before .before .before .before .before .before .before .before .before .before .before .before .before .before .before .before .pre) (c .before .before .before .before .before .before .before .before .before .before .before .before .beyond .ensures) (c .before .before .before .before .before .before .before .before .before .loop-test .taken)) (c .before .before .before .before .before .before .before .extend-in .ensures) (c .before .before .answer .given .1) (search needs)
+
+enum-known-filled : tie.Need-enum-known-filled Inv-loop μ-loop
+enum-known-filled c = search needs
+
+loop-less : tie.Need-loop-less Inv-loop μ-loop
+loop-less c =
+    falls (c .before .before .before .before .before .before .before .before .before .before .before .before .before .before .before .before .before .before .before .before .before .before .pre) (c .before .before .before .before .before .before .before .before .before .before .before .before .before .before .before .before .loop .inv) (loop-new (c .before .before .before .before .before .before .before .before .before .before .before .before .before .before .before .before .before .before .before .before .before .before .pre) (c .before .before .before .before .before .before .before .before .before .before .before .before .before .before .before .before .before .before .beyond .ensures) (c .before .before .before .before .before .before .before .before .before .before .before .before .before .before .before .loop-test .taken)) (c .before .before .before .before .before .before .before .before .before .before .before .before .before .extend-in .ensures) (c .before .before .before .before .before .before .before .before .answer .given .1)
+
+loop-again : tie.Need-loop-again Inv-loop μ-loop
+loop-again c =
+    goes-on (c .before .before .before .before .before .before .before .before .before .before .before .before .before .before .before .before .before .before .before .before .before .before .pre) (c .before .before .before .before .before .before .before .before .before .before .before .before .before .before .before .before .loop .inv) (loop-new (c .before .before .before .before .before .before .before .before .before .before .before .before .before .before .before .before .before .before .before .before .before .before .pre) (c .before .before .before .before .before .before .before .before .before .before .before .before .before .before .before .before .before .before .beyond .ensures) (c .before .before .before .before .before .before .before .before .before .before .before .before .before .before .before .loop-test .taken)) (c .before .before .before .before .before .before .before .before .before .before .before .before .before .extend-in .ensures) (c .before .before .before .before .before .before .before .before .answer .given .1) (c .before .before .before .before .before .fill-block .ensures) (search needs) (search needs) _ (c .before .filled .given .1)
+
+enum-told : tie.Need-enum-told Inv-loop μ-loop
+enum-told c = search needs
+
+loop-less-2 : tie.Need-loop-less-2 Inv-loop μ-loop
+loop-less-2 c =
+    falls (c .before .before .before .before .before .before .before .before .before .before .before .before .before .before .before .before .before .before .before .before .before .pre) (c .before .before .before .before .before .before .before .before .before .before .before .before .before .before .before .loop .inv) (loop-new (c .before .before .before .before .before .before .before .before .before .before .before .before .before .before .before .before .before .before .before .before .before .pre) (c .before .before .before .before .before .before .before .before .before .before .before .before .before .before .before .before .before .beyond .ensures) (c .before .before .before .before .before .before .before .before .before .before .before .before .before .before .loop-test .taken)) (c .before .before .before .before .before .before .before .before .before .before .before .before .extend-in .ensures) (c .before .before .before .before .before .before .before .answer .given .1)
+
+loop-again-2 : tie.Need-loop-again-2 Inv-loop μ-loop
+loop-again-2 c =
+    moves-on (c .before .before .before .before .before .before .before .before .before .before .before .before .before .before .before .before .before .before .before .before .before .pre) (c .before .before .before .before .before .before .before .before .before .before .before .before .before .before .before .loop .inv) (loop-new (c .before .before .before .before .before .before .before .before .before .before .before .before .before .before .before .before .before .before .before .before .before .pre) (c .before .before .before .before .before .before .before .before .before .before .before .before .before .before .before .before .before .beyond .ensures) (c .before .before .before .before .before .before .before .before .before .before .before .before .before .before .loop-test .taken)) (c .before .before .before .before .before .before .before .before .before .before .before .before .extend-in .ensures) (c .before .before .before .before .before .before .before .answer .given .1) (c .before .before .before .before .fill-block .ensures) (search needs) (search needs) (c .enum-told .given .1)
+
+enum-told-2 : tie.Need-enum-told-2 Inv-loop μ-loop
+enum-told-2 c = search needs
+
+same-length : tie.Need-same-length Inv-loop μ-loop
+same-length c = search needs
+
+returns : tie.Need-returns Inv-loop μ-loop
+returns c =
+    ends-lost (c .before .before .before .before .before .before .before .before .before .before .before .before .before .before .before .before .before .before .before .before .before .pre) (c .before .before .before .before .before .before .before .before .before .before .before .before .before .before .before .loop .inv) (loop-new (c .before .before .before .before .before .before .before .before .before .before .before .before .before .before .before .before .before .before .before .before .before .pre) (c .before .before .before .before .before .before .before .before .before .before .before .before .before .before .before .before .before .beyond .ensures) (c .before .before .before .before .before .before .before .before .before .before .before .before .before .before .loop-test .taken)) (c .before .before .before .before .before .before .before .before .before .before .before .before .extend-in .ensures) (c .before .before .before .before .before .before .before .answer .given .1) (c .before .before .before .before .fill-block .ensures) (c .enum-told2 .given .1)
+
+enum-told-3 : tie.Need-enum-told-3 Inv-loop μ-loop
+enum-told-3 c = search needs
+
+same-length-2 : tie.Need-same-length-2 Inv-loop μ-loop
+same-length-2 c = search needs
+
+returns-2 : tie.Need-returns-2 Inv-loop μ-loop
+returns-2 c =
+    ends-full (c .before .before .before .before .before .before .before .before .before .before .before .before .before .before .pre) (c .before .before .before .before .before .before .before .before .loop .inv) (loop-new (c .before .before .before .before .before .before .before .before .before .before .before .before .before .before .pre) (c .before .before .before .before .before .before .before .before .before .before .beyond .ensures) (c .before .before .before .before .before .before .before .loop-test .taken)) (c .before .before .before .before .before .extend-in .ensures) (c .enum-told3 .given .1)
+
+enum-told-4 : tie.Need-enum-told-4 Inv-loop μ-loop
+enum-told-4 c = search needs
+
+same-length-3 : tie.Need-same-length-3 Inv-loop μ-loop
+same-length-3 c = search needs
+
+returns-3 : tie.Need-returns-3 Inv-loop μ-loop
+returns-3 c =
+    ends-damaged (c .before .before .before .before .before .before .before .before .before .before .before .before .before .before .pre) (c .before .before .before .before .before .before .before .before .loop .inv) (loop-new (c .before .before .before .before .before .before .before .before .before .before .before .before .before .before .pre) (c .before .before .before .before .before .before .before .before .before .before .beyond .ensures) (c .before .before .before .before .before .before .before .loop-test .taken)) (c .before .before .before .before .before .extend-in .ensures) (c .enum-told4 .given .1)
+
+enum-told-5 : tie.Need-enum-told-5 Inv-loop μ-loop
+enum-told-5 c = search needs
+
+same-length-4 : tie.Need-same-length-4 Inv-loop μ-loop
+same-length-4 c = search needs
+
+returns-4 : tie.Need-returns-4 Inv-loop μ-loop
+returns-4 c =
+    ends-refused (c .before .before .before .before .before .before .before .before .before .before .before .before .before .before .pre) (c .before .before .before .before .before .before .before .before .loop .inv) (loop-new (c .before .before .before .before .before .before .before .before .before .before .before .before .before .before .pre) (c .before .before .before .before .before .before .before .before .before .before .beyond .ensures) (c .before .before .before .before .before .before .before .loop-test .taken)) (c .before .before .before .before .before .extend-in .ensures) (c .enum-told5 .given .1)
+
+same-length-5 : tie.Need-same-length-5 Inv-loop μ-loop
+same-length-5 c = search needs
+
+returns-5 : tie.Need-returns-5 Inv-loop μ-loop
+returns-5 c =
+    ends-done (c .before .before .before .before .before .before .before .pre) (c .before .loop .inv) (loop-end (c .before .before .before .before .before .before .before .pre) (c .before .before .before .beyond .ensures) (c .loop-test .left))
+
+pub write-on-spec : {M : Type 1} → statement M
+write-on-spec =
+    tie.close
+    (tie.spec
+    Inv-loop
+    μ-loop
+    cast-over
+    add-over
+    beyond-requires
+    add-new
+    loop-holds
+    extend-in-requires
+    enum-known-answer
+    fill-block-requires
+    enum-known-filled
+    loop-less
+    loop-again
+    enum-told
+    loop-less-2
+    loop-again-2
+    enum-told-2
+    same-length
+    returns
+    enum-told-3
+    same-length-2
+    returns-2
+    enum-told-4
+    same-length-3
+    returns-3
+    enum-told-5
+    same-length-4
+    returns-4
+    same-length-5
+    returns-5)

@@ -1,0 +1,67 @@
+-- Filling one new block: what its two steps leave, and what they ask.
+use mathlib.Core.Path.{_≡_}
+use mathlib.Core.Bool.{true, false}
+use mathlib.Core.List.{List}
+use Prim.Native.Nat.{ℕ, _+_, _-_, min, _≤_, _<_}
+use lib.Dec.{ltb}
+use lib.ListN.{length}
+use Rattle.card.specs.Card.{Card}
+use Rattle.device.specs.declared.Programmed.the-variants.{Stored, Refused}
+use Rattle.device.specs.Device.{refusesProgram, ProgramOut}
+use Rattle.files.specs.declared.Entry.{Entry}
+use Rattle.files.specs.Table.{sizeMax}
+use Rattle.store.specs.declared.Filled.{Filled}
+use Rattle.store.specs.declared.Filled.the-variants.{Done, Spoiled, Damaged}
+use Rattle.store.specs.Write.{Job, over, new, Look, fronted, tailed}
+use Rattle.store.specs.Store.{jobOf}
+
+-- gap and data go into block k, or it refuses
+unfoldable pub frontOf : List ℕ → ℕ → ℕ → ℕ → ℕ → ℕ → ℕ → List ℕ → List ℕ → ProgramOut
+frontOf health B k off s n pos src img =
+    elim (refusesProgram health k) [
+      | true ↦ record { answer = Refused; image = img }
+      | false ↦ record { answer = Stored; image = fronted B k off s n pos src img }
+    ]
+
+-- what filling a block leaves
+pub record FillOut : Type 0 where
+  pub answer : Filled
+  pub image : List ℕ
+
+-- how many positions from s on go into a block at offset off
+abbrev pub share : ℕ → Job → ℕ → ℕ → ℕ
+share B j off s = min (new j - s) (B - off)
+
+-- the tail, behind the front
+unfoldable pub tailOf : (List ℕ → ℕ → Look) → ℕ → Job → ℕ → ℕ → ℕ → List ℕ → FillOut
+tailOf look B j k off s img =
+    elim (ltb (over j - s) (share B j off s)) [
+      | false ↦ record { answer = Done (s + share B j off s); image = img }
+      | true ↦ elim (look img (s + (over j - s))) [
+        | Look.Lost ↦ record { answer = Damaged; image = img }
+        | Look.Found ob ↦ record { answer = Done (s + share B j off s); image = tailed B k off s (share B j off s) ob (over j) img }
+      ]
+    ]
+
+-- block k, grown at position s with offset off, is filled, or refuses
+unfoldable pub fillOf : (List ℕ → ℕ → Look) → List ℕ → ℕ → Job → ℕ → ℕ → ℕ → List ℕ → FillOut
+fillOf look health B j k off s img =
+    elim (refusesProgram health k) [
+      | true ↦ record { answer = Spoiled; image = img }
+      | false ↦ tailOf look B j k off s (fronted B k off s (share B j off s) (j .pos) (j .src) img)
+    ]
+
+-- r is the answer and `after` the image that a definition gives
+pub record FillGives (o : FillOut) (r : Filled) (after : List ℕ) : Type 0 where
+  pub answer : r ≡ o .answer
+  pub image : after ≡ o .image
+
+-- what a filling asks: a card with a health byte for each block, a block with room, and something left to write
+pub record Filling (B N : ℕ) (e : Entry) (pos : ℕ) (src : List ℕ) (k off s : ℕ) (image health : List ℕ) : Type 0 where
+  pub card : Card B N (length image)
+  pub known : N ≤ length health
+  pub most : e .size ≤ sizeMax
+  pub fits : pos + length src ≤ sizeMax
+  pub block : k < N
+  pub room : off < B
+  pub left : s < new (jobOf e pos src)

@@ -1,0 +1,7 @@
+-- The definitions that the contracts of `store` cite.
+pub mod Write
+pub mod Store
+pub mod Lookups
+pub mod Fill
+pub mod Put
+pub mod Calls

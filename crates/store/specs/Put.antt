@@ -1,0 +1,52 @@
+-- The growths of a write with the window as their allocator: what the inner functions leave, and what they ask.
+use mathlib.Core.Path.{_≡_}
+use mathlib.Core.List.{List}
+use Prim.Native.Nat.{ℕ, suc, _+_, _≤_}
+use lib.ListN.{length}
+use Rattle.files.specs.declared.Entry.{Entry}
+use Rattle.files.specs.declared.Table.{Table}
+use Rattle.files.specs.Table.{sizeMax}
+use Rattle.files.specs.Change.{putOf}
+use Rattle.window.specs.declared.Lookahead.{Lookahead}
+use Rattle.alloc.specs.Allocate.{Ready}
+use Rattle.grow.specs.Extend.{windowAlloc}
+use Rattle.store.specs.declared.Writing.the-variants as writing
+use Rattle.store.specs.declared.Writing as declared
+use Rattle.store.specs.declared.Wrote.{Wrote}
+use Rattle.store.specs.declared.Outcome.the-variants as outcome
+use Rattle.store.specs.declared.Stored.{Stored}
+use Rattle.store.specs.Write.{Writing, Written, NoRoom, Corrupt, WriteOut, writeOf}
+use Rattle.store.specs.Store.{lookIn, jobOf}
+
+-- the growths from window w and the list (h, s) on, m of them at most
+unfoldable pub onBy : ℕ → ℕ → ℕ → ℕ → List ℕ → Table → Entry → ℕ → List ℕ → Lookahead → ℕ → ℕ → List ℕ → WriteOut Lookahead
+onBy m B N l health t e pos src w h s img =
+    writeOf (lookIn B N e) (λ (v : Lookahead). v .ckpoint) (windowAlloc B N l t) m health B N (jobOf e pos src) w h s img
+
+abbrev pub onFrom : ℕ → ℕ → ℕ → List ℕ → Table → Entry → ℕ → List ℕ → Lookahead → ℕ → ℕ → List ℕ → WriteOut Lookahead
+onFrom B N l health t e pos src w h s img = onBy (suc (w .ckpoint)) B N l health t e pos src w h s img
+
+-- the code's answer for a definition's
+abbrev pub wroteOf : Writing → declared.Writing
+wroteOf (Written h s) = writing.Written h s
+wroteOf NoRoom = writing.NoRoom
+wroteOf Corrupt = writing.Corrupt
+
+-- r is the answer and the window, and `after` the image, that a definition gives
+pub record WroteGives (o : WriteOut Lookahead) (r : Wrote) (after : List ℕ) : Type 0 where
+  pub answer : r .answer ≡ wroteOf (o .answer)
+  pub window : r .window ≡ o .rest
+  pub image : after ≡ o .image
+
+-- behind the tests
+pub record Putting (B N l : ℕ) (image health : List ℕ) (t : Table) (w : Lookahead) (e : Entry) (pos : ℕ) (src : List ℕ) : Type 0 where
+  pub ready : Ready B N l (length image) t w
+  pub known : N ≤ length health
+  pub most : e .size ≤ sizeMax
+  pub fits : pos + length src ≤ sizeMax
+
+-- the table changes last
+abbrev pub finishOf : Table → ℕ → declared.Writing → Lookahead → Stored
+finishOf t i (writing.Written h s) w = record { answer = outcome.Done; window = w; table = putOf t i s h }
+finishOf t i writing.NoRoom w = record { answer = outcome.Full; window = w; table = t }
+finishOf t i writing.Corrupt w = record { answer = outcome.Damaged; window = w; table = t }
