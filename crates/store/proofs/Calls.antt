@@ -28,9 +28,9 @@ use Rattle.alloc.proofs.Tested.{ready}
 use Rattle.store.specs.declared.Outcome.{Outcome}
 use Rattle.store.specs.declared.Outcome.the-variants as outcome
 use Rattle.store.specs.declared.Stored.{Stored}
-use Rattle.store.specs.declared.Writing as declared
-use Rattle.store.specs.declared.Writing.the-variants as writing
-use Rattle.store.specs.declared.Wrote.{Wrote}
+use Rattle.store.specs.declared.growths.Writing as declared
+use Rattle.store.specs.declared.growths.Writing.the-variants as writing
+use Rattle.store.specs.declared.growths.Wrote.{Wrote}
 use Rattle.store.specs.Write.{Writing, Written, NoRoom, Corrupt, WriteOut}
 use Rattle.store.specs.Store.{StoreOut, left, written, writtenOf, puts, storeWrite, shrunk, shrinks, storeTruncate}
 use Rattle.store.specs.Put.{wroteOf, WroteGives, Putting, finishOf}

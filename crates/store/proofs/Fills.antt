@@ -16,8 +16,8 @@ use Rattle.device.proofs.Steps.{program-stored, told-stored, told-refused}
 use Rattle.files.specs.declared.Entry.{Entry}
 use Rattle.grow.specs.Grow.{part}
 use Rattle.grow.specs.Attempt.{Linking}
-use Rattle.store.specs.declared.Filled.{Filled}
-use Rattle.store.specs.declared.Filled.the-variants.{Done, Spoiled, Damaged}
+use Rattle.store.specs.declared.block.Filled.{Filled}
+use Rattle.store.specs.declared.block.Filled.the-variants.{Done, Spoiled, Damaged}
 use Rattle.store.specs.Write.{Job, over, new, Look, fronted, tailed}
 use Rattle.store.specs.Lookups.{Looking}
 use Rattle.store.specs.Fill.{frontOf, FillOut, share, tailOf, fillOf, FillGives, Filling}

@@ -13,9 +13,9 @@ use Rattle.grow.specs.declared.Growth.the-variants as growth
 use Rattle.grow.specs.declared.Grew.{Grew}
 use Rattle.grow.specs.Extend.{extendIn, GrewGives, Extending}
 use Rattle.grow.proofs.Grown.{Grows, extend-grows}
-use Rattle.store.specs.declared.Filled.{Filled}
-use Rattle.store.specs.declared.Filled.the-variants.{Done, Spoiled, Damaged}
-use Rattle.store.specs.declared.Writing.the-variants as writing
+use Rattle.store.specs.declared.block.Filled.{Filled}
+use Rattle.store.specs.declared.block.Filled.the-variants.{Done, Spoiled, Damaged}
+use Rattle.store.specs.declared.growths.Writing.the-variants as writing
 use Rattle.store.specs.Write.{Writing, Written, NoRoom, Corrupt, WriteOut, write-out, new}
 use Rattle.store.specs.Store.{lookIn, jobOf}
 use Rattle.store.specs.Fill.{fillOf, FillGives, Filling}

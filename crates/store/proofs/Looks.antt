@@ -17,7 +17,7 @@ use Rattle.ctz.specs.declared.Found.the-variants as found
 use Rattle.ctz.specs.Lookup.{walk, walkTo}
 use Rattle.ctz.proofs.Lookups.{found-tells}
 use Rattle.files.specs.declared.Entry.{Entry}
-use Rattle.store.specs.declared.Looked.the-variants as looked-as
+use Rattle.store.specs.declared.old.Looked.the-variants as looked-as
 use Rattle.store.specs.Write.{Look, starts, looked, firstHead}
 use Rattle.store.specs.Store.{lookOf, lookIn}
 use Rattle.store.specs.Lookups.{lookedOf, keptWanted, tailWanted, keptOf, Looking}

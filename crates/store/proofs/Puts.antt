@@ -13,10 +13,10 @@ use Rattle.window.specs.declared.Lookahead.{Lookahead}
 use Rattle.window.specs.Value.{checkpointOf}
 use Rattle.window.proofs.Kept.{checkpoint-valid}
 use Rattle.grow.specs.Extend.{windowAlloc}
-use Rattle.store.specs.declared.Looked.{Looked}
-use Rattle.store.specs.declared.Looked.the-variants as looked-as
-use Rattle.store.specs.declared.Writing.the-variants as writing
-use Rattle.store.specs.declared.Wrote.{Wrote}
+use Rattle.store.specs.declared.old.Looked.{Looked}
+use Rattle.store.specs.declared.old.Looked.the-variants as looked-as
+use Rattle.store.specs.declared.growths.Writing.the-variants as writing
+use Rattle.store.specs.declared.growths.Wrote.{Wrote}
 use Rattle.store.specs.Write.{Job, Look, over, kept, zeros, Corrupt, when, wanted, looked, firstHead, putOf}
 use Rattle.store.specs.Store.{lookIn, jobOf, puts}
 use Rattle.store.specs.Lookups.{lookedOf, keptWanted, tailWanted, foundIf, keptOf, Looking}

@@ -9,7 +9,7 @@ use Rattle.device.specs.Device.{refusesProgram}
 use Rattle.grow.specs.declared.Growth.the-variants as growth
 use Rattle.grow.specs.Supply.{Took}
 use Rattle.grow.specs.Grow.{growOf}
-use Rattle.store.specs.declared.Filled.the-variants.{Done, Spoiled, Damaged}
+use Rattle.store.specs.declared.block.Filled.the-variants.{Done, Spoiled, Damaged}
 use Rattle.store.specs.Write.{Job, new, over, Look, Written, NoRoom, Corrupt, WriteOut, write-out, fronted, filledOf, grownOf, writeOf}
 use Rattle.store.specs.Fill.{FillOut, share, tailOf, fillOf}
 use Rattle.store.proofs.Fills.{fill-refused, fill-goes}

@@ -10,8 +10,8 @@ use Rattle.device.specs.declared.Programmed.the-variants.{Stored, Refused}
 use Rattle.device.specs.Device.{refusesProgram, ProgramOut}
 use Rattle.files.specs.declared.Entry.{Entry}
 use Rattle.files.specs.Table.{sizeMax}
-use Rattle.store.specs.declared.Filled.{Filled}
-use Rattle.store.specs.declared.Filled.the-variants.{Done, Spoiled, Damaged}
+use Rattle.store.specs.declared.block.Filled.{Filled}
+use Rattle.store.specs.declared.block.Filled.the-variants.{Done, Spoiled, Damaged}
 use Rattle.store.specs.Write.{Job, over, new, Look, fronted, tailed}
 use Rattle.store.specs.Store.{jobOf}
 

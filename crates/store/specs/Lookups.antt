@@ -7,8 +7,8 @@ use Rattle.layout.specs.Layout.{indexAt, start}
 use Rattle.card.specs.Card.{Card}
 use Rattle.files.specs.declared.Entry.{Entry}
 use Rattle.files.specs.Table.{sizeMax}
-use Rattle.store.specs.declared.Looked.{Looked}
-use Rattle.store.specs.declared.Looked.the-variants as looked-as
+use Rattle.store.specs.declared.old.Looked.{Looked}
+use Rattle.store.specs.declared.old.Looked.the-variants as looked-as
 use Rattle.store.specs.Write.{Look, when, starts, looked, firstHead}
 
 abbrev pub lookedOf : Look → Looked

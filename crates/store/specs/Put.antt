@@ -10,9 +10,9 @@ use Rattle.files.specs.Change.{putOf}
 use Rattle.window.specs.declared.Lookahead.{Lookahead}
 use Rattle.alloc.specs.Allocate.{Ready}
 use Rattle.grow.specs.Extend.{windowAlloc}
-use Rattle.store.specs.declared.Writing.the-variants as writing
-use Rattle.store.specs.declared.Writing as declared
-use Rattle.store.specs.declared.Wrote.{Wrote}
+use Rattle.store.specs.declared.growths.Writing.the-variants as writing
+use Rattle.store.specs.declared.growths.Writing as declared
+use Rattle.store.specs.declared.growths.Wrote.{Wrote}
 use Rattle.store.specs.declared.Outcome.the-variants as outcome
 use Rattle.store.specs.declared.Stored.{Stored}
 use Rattle.store.specs.Write.{Writing, Written, NoRoom, Corrupt, WriteOut, writeOf}

@@ -4,3 +4,4 @@ pub mod Tables
 pub mod Allocator
 pub mod Growth
 pub mod Contents
+pub mod Writes

@@ -5,3 +5,4 @@ pub mod contents;
 pub mod growth;
 pub mod lists;
 pub mod tables;
+pub mod writes;

@@ -2,7 +2,7 @@
 use mathlib.Core.Path.{_≡_, refl, ap, _∙_, sym}
 use mathlib.Core.Bool.{Bool, true, false, _&&_, _||_, or-assoc}
 use mathlib.Core.List.{List, [], _∷_, _++_}
-use Prim.Native.Nat.{ℕ, zero, suc, _+_, _-_}
+use Prim.Native.Nat.{ℕ, zero, suc}
 use lib.ListN.{getD, set}
 use Rattle.window.specs.Scan.{Below, Seen, has, ifOk, listedOf, seenAll, unseen}
 use Rattle.window.proofs.Cases.{no-both}

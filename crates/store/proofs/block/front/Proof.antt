@@ -1,10 +1,10 @@
--- `store::front` meets its contract: the zeros, then the run of data that there is. Assumes nothing.
+-- `store::block::front` meets its contract: the zeros, then the run of data that there is. Assumes nothing.
 use native.Mathlib.Nat.{lt-of-le-of-lt}
 use Rattle.store.proofs.Fills.{gap-fits, front-spoiled, front-goes}
 use borrow.Author.Needs.{needs}
 use native.Mathlib.Omega.{arith}
-use Rattle.store.proofs.front.Statement.{statement}
-use Rattle.store.proofs.front.Tie as tie
+use Rattle.store.proofs.block.front.Statement.{statement}
+use Rattle.store.proofs.block.front.Tie as tie
 
 beyond-requires : tie.Need-beyond-requires
 beyond-requires c κs = search needs

@@ -1,9 +1,9 @@
--- `store::put` meets its contract: a block that is not found ends it, else the growths give what it gives. Assumes nothing.
+-- `store::growths::put` meets its contract: a block that is not found ends it, else the growths give what it gives. Assumes nothing.
 use Rattle.store.proofs.Puts.{putting-look, putting-on, put-lost, put-tailless, put-goes}
 use borrow.Author.Needs.{needs}
 use native.Mathlib.Omega.{arith}
-use Rattle.store.proofs.put.Statement.{statement}
-use Rattle.store.proofs.put.Tie as tie
+use Rattle.store.proofs.growths.put.Statement.{statement}
+use Rattle.store.proofs.growths.put.Tie as tie
 
 alloc-ckpoint-requires : tie.Need-alloc-ckpoint-requires
 alloc-ckpoint-requires c κs = search needs

@@ -1,4 +1,4 @@
--- `store::fill_block` meets its contract: the front decides whether the block refuses; then the tail is due or not. Assumes nothing.
+-- `store::block::fill_block` meets its contract: the front decides whether the block refuses; then the tail is due or not. Assumes nothing.
 use mathlib.Core.Path.{refl, sym, _∙_}
 use Rattle.store.specs.Store.{lookIn, jobOf}
 use Rattle.grow.proofs.Rooms.{room-of, source-of}
@@ -6,8 +6,8 @@ use Rattle.store.proofs.Looks.{told-block, told-lost, look-below}
 use Rattle.store.proofs.Fills.{share-is, share-fits, tail-below, tail-fits, filling-link, filling-look, fill-spoiled, fill-whole, fill-lost, fill-tailed}
 use borrow.Author.Needs.{needs}
 use native.Mathlib.Omega.{arith}
-use Rattle.store.proofs.fill_block.Statement.{statement}
-use Rattle.store.proofs.fill_block.Tie as tie
+use Rattle.store.proofs.block.fill_block.Statement.{statement}
+use Rattle.store.proofs.block.fill_block.Tie as tie
 
 cast-over : tie.Need-cast-over
 cast-over c = search needs

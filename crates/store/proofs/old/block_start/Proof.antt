@@ -1,12 +1,12 @@
--- `store::block_start` meets its contract: what the offset counts behind the pointers lies behind the block's first position. Assumes nothing.
+-- `store::old::block_start` meets its contract: what the offset counts behind the pointers lies behind the block's first position. Assumes nothing.
 use mathlib.Core.Path.{refl, ap}
 use Rattle.layout.specs.Layout.{pointers}
 use Rattle.layout.proofs.Places.{offset-past, offset-of}
 use Rattle.store.proofs.Index.{start-back}
 use borrow.Author.Needs.{needs}
 use native.Mathlib.Omega.{arith}
-use Rattle.store.proofs.block_start.Statement.{statement}
-use Rattle.store.proofs.block_start.Tie as tie
+use Rattle.store.proofs.old.block_start.Statement.{statement}
+use Rattle.store.proofs.old.block_start.Tie as tie
 
 index-at-requires : tie.Need-index-at-requires
 index-at-requires c κs = search needs

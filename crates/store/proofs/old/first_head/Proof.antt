@@ -1,4 +1,4 @@
--- `store::first_head` meets its contract: by where q lies, the block of byte q - 1 is the last one that is looked for. Assumes nothing.
+-- `store::old::first_head` meets its contract: by where q lies, the block of byte q - 1 is the last one that is looked for. Assumes nothing.
 use mathlib.Core.Path.{sym, _∙_}
 use mathlib.Core.Logic.{⊎-elim}
 use Rattle.layout.proofs.Served.{served}
@@ -6,8 +6,8 @@ use Rattle.store.specs.Store.{lookIn}
 use Rattle.store.proofs.Looks.{look-same, told-block, told-lost, head-none, head-lost, head-inside, head-border, head-first}
 use borrow.Author.Needs.{needs}
 use native.Mathlib.Omega.{arith}
-use Rattle.store.proofs.first_head.Statement.{statement}
-use Rattle.store.proofs.first_head.Tie as tie
+use Rattle.store.proofs.old.first_head.Statement.{statement}
+use Rattle.store.proofs.old.first_head.Tie as tie
 
 returns : tie.Need-returns
 returns c =

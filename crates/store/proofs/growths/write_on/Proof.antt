@@ -1,8 +1,8 @@
--- `store::write_on` meets its contract: what is left to do equals the whole write (`Rest`), and each growth lowers the checkpoint count. Assumes nothing.
+-- `store::growths::write_on` meets its contract: what is left to do equals the whole write (`Rest`), and each growth lowers the checkpoint count. Assumes nothing.
 use Rattle.store.proofs.Goes.{Rest, rest-start, rest-extends, rest-fills, falls, goes-on, moves-on, ends-done, ends-full, ends-damaged, ends-refused, ends-lost, loop-new, loop-end}
 use borrow.Author.Needs.{needs}
-use Rattle.store.proofs.write_on.Statement.{statement}
-use Rattle.store.proofs.write_on.Tie as tie
+use Rattle.store.proofs.growths.write_on.Statement.{statement}
+use Rattle.store.proofs.growths.write_on.Tie as tie
 
 abbrev Inv-loop : tie.InvT-loop
 Inv-loop b n l image₀ health t e pos «data» head size over new window₀ h₀ s₀ image window h s =

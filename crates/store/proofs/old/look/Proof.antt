@@ -1,11 +1,11 @@
--- `store::look` meets its contract: the lookup's answer, case by case. Assumes nothing.
+-- `store::old::look` meets its contract: the lookup's answer, case by case. Assumes nothing.
 use mathlib.Core.Path.{sym, ap, _∙_}
 use Rattle.ctz.specs.declared.Found.{Found}
 use Rattle.store.specs.Store.{lookOf}
 use Rattle.store.specs.Lookups.{lookedOf}
 use borrow.Author.Needs.{needs}
-use Rattle.store.proofs.look.Statement.{statement}
-use Rattle.store.proofs.look.Tie as tie
+use Rattle.store.proofs.old.look.Statement.{statement}
+use Rattle.store.proofs.old.look.Tie as tie
 
 find-in-requires : tie.Need-find-in-requires
 find-in-requires c κs = search needs

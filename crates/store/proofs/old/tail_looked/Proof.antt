@@ -1,4 +1,4 @@
--- `store::tail_looked` meets its contract: what is left to look for equals the whole. Assumes nothing.
+-- `store::old::tail_looked` meets its contract: what is left to look for equals the whole. Assumes nothing.
 use mathlib.Core.Path.{_≡_, refl, sym, ap, _∙_}
 use Prim.Native.Nat.{ℕ, _+_, _-_}
 use Rattle.layout.proofs.Places.{offset-inside}
@@ -9,8 +9,8 @@ use Rattle.store.specs.Lookups.{tailWanted}
 use Rattle.store.proofs.Looks.{look-same, told-block, told-lost, tail-lost, tail-turn, tail-end}
 use borrow.Author.Needs.{needs}
 use native.Mathlib.Omega.{arith}
-use Rattle.store.proofs.tail_looked.Statement.{statement}
-use Rattle.store.proofs.tail_looked.Tie as tie
+use Rattle.store.proofs.old.tail_looked.Statement.{statement}
+use Rattle.store.proofs.old.tail_looked.Tie as tie
 
 abbrev Inv-loop : tie.InvT-loop
 Inv-loop b n image e from size p₀ p =

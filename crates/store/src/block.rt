@@ -1,0 +1,104 @@
+// One new block, filled with gap, data and tail.
+use super::numbers::beyond;
+use super::numbers::least;
+use super::old::Looked;
+use super::old::look;
+use device::Programmed;
+use files::Entry;
+ghost use mathlib.Core.Path.{_≡_};
+ghost use Prim.Native.Nat.{_≤_};
+ghost use lib.ListN.{length};
+ghost use Rattle.device.specs.Device.{ProgramGives};
+ghost use Rattle.device.specs.Bounds.{Room};
+ghost use Rattle.files.specs.Table.{sizeMax};
+ghost use Rattle.store.specs.Store.{lookIn, jobOf};
+ghost use Rattle.store.specs.Fill.{frontOf, fillOf, FillGives, Filling};
+
+// What filling a new block gives: the size so far, that the block refused, or -84.
+pub enum Filled {
+    Done(u32),
+    Spoiled,
+    Damaged,
+}
+
+// The front of the `m` positions from `s` on in block `k`: the gap's zeros, then data.
+fn front(
+    image: &mut [u8],
+    health: &[u8],
+    b: u32,
+    k: u32,
+    off: u32,
+    s: u32,
+    m: u32,
+    pos: u32,
+    data: &[u8],
+) -> Programmed
+    requires { ⌜ Room b k off m (now image) (now health) × (length (now «data») ≤ sizeMax) ⌝ }
+    ensures { λ r. ⌜ ProgramGives
+        (frontOf (now (health .entry)) b k off s m pos (now («data» .entry)) (now (image .entry)))
+        r (now (image .exit)) ⌝ }
+{
+    let gap = least(beyond(pos, s), m);
+    let put = device::program_zeros(image, health, b, k, off, gap);
+    match put {
+        Programmed::Stored => {}
+        Programmed::Refused => {
+            return Programmed::Refused;
+        }
+    }
+    let size = data.len() as u32;
+    let from = least(beyond(s, pos), size);
+    let run = least(m - gap, size - from);
+    device::program(
+        image,
+        health,
+        b,
+        k,
+        off + gap,
+        data,
+        from as usize,
+        run as usize,
+    )
+}
+
+// Block `k` filled from position `s` on: gap, data, and the tail of the old file from its block of the same index.
+pub fn fill_block(
+    image: &mut [u8],
+    health: &[u8],
+    b: u32,
+    n: u32,
+    e: Entry,
+    pos: u32,
+    data: &[u8],
+    k: u32,
+    off: u32,
+    s: u32,
+) -> Filled
+    requires { ⌜ Filling b n e pos (now «data») k off s (now image) (now health) ⌝ }
+    ensures { λ r. ⌜ FillGives
+        (fillOf (lookIn b n e) (now (health .entry)) b (jobOf e pos (now («data» .entry))) k off s (now (image .entry)))
+        r (now (image .exit)) ⌝ }
+{
+    let over = pos + data.len() as u32;
+    let new = e.size + beyond(over, e.size);
+    let m = least(new - s, b - off);
+    let put = front(image, health, b, k, off, s, m, pos, data);
+    match put {
+        Programmed::Stored => {}
+        Programmed::Refused => {
+            return Filled::Spoiled;
+        }
+    }
+    let at = beyond(over, s);
+    if m <= at {
+        return Filled::Done(s + m);
+    }
+    let old = look(b, n, &image[..], e, s + at);
+    match old {
+        Looked::Block(block) => {
+            device::program_copy(image, health, b, k, off + at, block, off + at, m - at);
+            Filled::Done(s + m)
+        }
+        Looked::Lost => Filled::Damaged,
+    }
+}
