@@ -72,7 +72,7 @@ fn replay_all(list: &[u8]) {
     replay(list, 6, b"seek ", 32);
 }
 
-// Room for the list.
+// Room for the list; of a longer one the last records are missing.
 fn room() -> [u8; 262144] {
     [0; 262144]
 }
