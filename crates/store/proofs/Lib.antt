@@ -7,3 +7,5 @@ pub mod Goes
 pub mod Gaps
 pub mod Puts
 pub mod Calls
+pub mod Refusals
+pub mod Examples

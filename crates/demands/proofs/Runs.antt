@@ -1,0 +1,63 @@
+-- Any sequence of store calls on sound lists gives the plain files that the same calls give. Assumes nothing.
+use mathlib.Core.Path.{_≡_, refl, ap, _∙_}
+use mathlib.Core.Bool.{Bool, true, _&&_}
+use mathlib.Core.List.{List, [], _∷_}
+use Prim.Native.Nat.{ℕ, _<_}
+use native.Mathlib.Omega.{arith}
+use lib.ListN.{length}
+use Rattle.card.specs.Card.{goodCard}
+use Rattle.ctz.specs.Lists.{SoundList}
+use Rattle.files.specs.declared.Entry.{Entry}
+use Rattle.files.specs.declared.Table.{Table}
+use Rattle.files.specs.Table.{held, tableOf, filesOk}
+use Rattle.window.specs.Value.{freshOf}
+use Rattle.demands.specs.Calls.{State, Call, Left, after}
+use Rattle.demands.specs.Came.{Among, here, there, Sounds, Came, fresh}
+use Rattle.demands.specs.Plain.{PlainFile, plainCode, grows}
+use Rattle.demands.specs.Runs.{filesIn, Step, Run, onto, runs, answered, isShort, plainRuns, told}
+use Rattle.demands.proofs.Entries.{made-ok}
+use Rattle.demands.proofs.Contents.{Plainly, same-files}
+use Rattle.demands.proofs.Kept.{Held}
+use Rattle.demands.proofs.Ends.{Ends, accepted, refused, short}
+use Rattle.demands.proofs.Came.{step, ends-held, came-held}
+
+-- one call, and then what the rest gives
+turn : {B N l : ℕ} {fits : Bool} {c : Call} {s : State} {o : Left} → Ends B N l fits c s o → (rest : List PlainFile → Run)
+    → onto (o .code) (rest (filesIn B (o .state)))
+    ≡ answered (plainCode fits c (filesIn B s)) (isShort (o .code) && grows c (filesIn B s)) c (filesIn B s) (λ code gs. onto code (rest gs))
+turn (accepted q p f _ _) rest = rw (p, q, f)
+turn {B} (refused k _ q p e) rest = rw (p, q, e)
+turn {B} {s = s} {o = o} (short q p g e r _) rest =
+    let f : filesIn B (o .state) ≡ filesIn B s
+    = ap (λ (t : Table). Plainly B (o .state .image) (held t)) e ∙ same-files B (s .image) (o .state .image) (held (s .table)) r in
+    rw (p, q, g, f)
+
+held-runs : {B N l : ℕ} {s : State} → Held B N l s → (cs : List Step) → runs B N l cs s ≡ plainRuns (told B N l cs s) (filesIn B s)
+unfolding runs plainRuns told
+held-runs h [] = refl
+held-runs {B} {N} {l} {s} h (c ∷ cs) =
+    let e = step h (c .health) (c .call) in
+    ap (onto (after B N l (c .health) (c .call) s .code)) (held-runs (ends-held h e) cs)
+    ∙ turn e (plainRuns (told B N l cs (after B N l (c .health) (c .call) s .state)))
+
+-- THE RUN. From a fresh window, on any table of sound lists: for every sequence of store calls, 01's number of each call and the bytes of all files at the
+-- end are those that the same calls give on plain files, refused calls changing nothing.
+pub run-plain : (B N l start : ℕ) (t : Table) (image : List ℕ) → start < N → Sounds B N (record { window = freshOf start N; table = t; image = image })
+    → (cs : List Step) → (let s : State = record { window = freshOf start N; table = t; image = image } in runs B N l cs s ≡ plainRuns (told B N l cs s) (filesIn B s))
+run-plain B N l start t image lt so cs = held-runs (came-held (fresh start t image lt) so) cs
+
+-- no file is among none
+none-in : {e : Entry} {es : List Entry} (P : Type 0) → length es ≡ 0 → Among e es → P
+none-in P z here = absurd (omega arith)
+none-in P z (there a) = absurd (omega arith)
+
+-- A card without files: its lists are sound, so the same holds of it.
+pub no-files : (B N start : ℕ) (image : List ℕ) → goodCard B N (length image) ≡ true
+    → Sounds B N (record { window = freshOf start N; table = tableOf []; image = image })
+unfolding filesOk
+no-files B N start image g =
+    record { card = g; table = made-ok [] (omega arith) refl; list = λ e a. none-in (SoundList image B N (e .head) (e .size)) refl a }
+
+-- The same from any window that came from store calls.
+pub run-on : {B N l : ℕ} {s : State} → Came B N l s → Sounds B N s → (cs : List Step) → runs B N l cs s ≡ plainRuns (told B N l cs s) (filesIn B s)
+run-on came so cs = held-runs (came-held came so) cs

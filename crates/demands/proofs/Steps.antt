@@ -1,0 +1,145 @@
+-- Each store call on sound lists, with a window that is valid and clean for them. Assumes nothing.
+use mathlib.Core.Path.{_≡_, refl, sym, ap, _∙_, subst}
+use mathlib.Core.Bool.{Bool, true}
+use mathlib.Core.List.{List, [], _∷_, _++_, append-nil}
+use Prim.Native.Nat.{ℕ, _-_, _≤_, _<_}
+use native.Mathlib.Omega.{arith}
+use borrow.Author.Tests.{lt-leb, le-leb}
+use lib.IntN.{pos, negsuc}
+use lib.ListN.{length, take, length-append, length-replicate}
+use Rattle.files.specs.declared.Entry.{Entry}
+use Rattle.files.specs.declared.Table.{Table}
+use Rattle.files.specs.declared.Found.{Found}
+use Rattle.files.specs.declared.Found.the-variants as found
+use Rattle.files.specs.declared.Changed.{Changed}
+use Rattle.files.specs.Table.{filesMax, held, tableOf, tableOk}
+use Rattle.files.specs.Find.{findOf}
+use Rattle.files.specs.Change.{createOf, removeOf, insertOf, withoutOf}
+use Rattle.files.proofs.Laws.{count-ok, held-ok, held-length}
+use Rattle.files.proofs.Lists.{held-of}
+use Rattle.files.proofs.Cases as cases
+use Rattle.files.proofs.Tests.{ltb-cases}
+use Rattle.plain.specs.Bytes.{bytes, span}
+use Rattle.store.specs.Write.{zeros}
+use Rattle.writes.specs.Plain.{plainWrite}
+use Rattle.demands.specs.Calls.{State, create, remove, changedIn}
+use Rattle.demands.specs.Plain.{PlainFile, unless, wrote, resized}
+use Rattle.demands.specs.Runs.{filesIn}
+use Rattle.demands.proofs.Changes.{create-keeps, remove-keeps}
+use Rattle.demands.proofs.Named.{Unnamed, FindView, high, missing, at, find-view}
+use Rattle.demands.proofs.Entries.{inserted-ok, removed-ok}
+use Rattle.demands.proofs.Contents as contents
+use Rattle.demands.proofs.Kept.{Held, before, again}
+use Rattle.demands.proofs.Calls as laws
+use Rattle.demands.proofs.Ends.{Ends, accepted, refused}
+
+-- a write of at least one byte to a plain file
+pub wrote-some : (p : ℕ) (src bs : List ℕ) → (length src ≡ 0 → ⊥) → plainWrite bs p src ≡ wrote p src bs
+wrote-some p [] bs n = absurd (n refl)
+wrote-some p (x ∷ src) bs n = refl
+
+pub wrote-none : (p : ℕ) (src bs : List ℕ) → length src ≡ 0 → wrote p src bs ≡ bs
+wrote-none p [] bs n = refl
+wrote-none p (x ∷ src) bs n = absurd (omega arith)
+
+-- a truncate of a plain file: cut, as it was, or zeros behind it
+pub resized-less : (size : ℕ) (bs : List ℕ) → size ≤ length bs → take size bs ≡ resized size bs
+resized-less size bs h =
+    let z : 0 ≡ size - length bs = omega arith in
+    ap (take size) (sym (append-nil bs)) ∙ ap (λ (n : ℕ). take size (bs ++ zeros n)) z
+
+pub resized-more : (size : ℕ) (bs : List ℕ) → length bs ≤ size → bs ++ zeros (size - length bs) ≡ resized size bs
+resized-more size bs h =
+    let all = bs ++ zeros (size - length bs) in
+    let n : length all ≡ size = length-append bs (zeros (size - length bs)) ∙ rw (length-replicate {A = ℕ} (size - length bs) 0) (omega arith) in
+    sym (ap (λ (k : ℕ). take k all) (sym n) ∙ contents.take-all all)
+
+pub empty-bytes : (img : List ℕ) (B head : ℕ) → bytes img B head 0 ≡ []
+unfolding bytes span
+empty-bytes img B head = refl
+
+module _ {B N l : ℕ} {s : State} (h : Held B N l s) (number : ℕ) where
+  abbrev t : Table
+  t = s .table
+
+  abbrev fs : List PlainFile
+  fs = filesIn B s
+
+  ok : tableOk t ≡ true
+  ok = h .sounds .table
+
+  files-count : length fs ≡ t .count
+  files-count = contents.map-length (λ (e : Entry). record { number = e .number; bytes = bytes (s .image) B (e .head) (e .size) }) (held t) ∙ held-length t ok
+
+  -- ---- create
+
+  abbrev more : List Entry
+  more = insertOf number (held t)
+
+  pub create-step : (fits : Bool) → Ends B N l fits (create number) s (changedIn s (createOf t number))
+  create-step fits = go (find-view t number ok) refl
+    where
+      by : {c : Changed} → c ≡ createOf t number → Ends B N l fits (create number) s (changedIn s c)
+          → Ends B N l fits (create number) s (changedIn s (createOf t number))
+      by q e = subst (λ (c : Changed). Ends B N l fits (create number) s (changedIn s c)) q e
+
+      new : findOf t number ≡ found.Missing → number ≤ 65535 → Unnamed number (held t) → t .count < filesMax
+          → Ends B N l fits (create number) s (changedIn s (createOf t number))
+      new q a u c =
+          by (sym (laws.create-new t number q c)) (accepted refl
+          (laws.number-none number fs _ _ _ a (contents.unnamed-holds B (s .image) u)
+          ∙ ap (λ (b : Bool). unless b (negsuc 11) (pos 0)) (lt-leb filesMax (length fs) (omega (arith, files-count))))
+          (rw (held-of more) (contents.create-files B (s .image) number (held t)))
+          (record {
+            kept = λ e n x. rw (held-of more) (contents.insert-kept number e (held t) x);
+            came-in = λ e n x. contents.insert-from number e (held t) n (rw (held-of more) at x);
+            reads = λ e x. refl;
+          })
+          (again (tableOf more) (s .window) (s .image) (inserted-ok number (held t) u a (omega (arith, held-length t ok)) (held-ok t ok))
+          (rw (held-of more) (create-keeps B N l (s .window) (s .image) (held t) (before h) number))))
+
+      full : findOf t number ≡ found.Missing → number ≤ 65535 → Unnamed number (held t) → filesMax ≤ t .count
+          → Ends B N l fits (create number) s (changedIn s (createOf t number))
+      full q a u c =
+          by (cases.create-full t number (findOf t number) refl q c) (refused 11 (omega arith) refl
+          (laws.number-none number fs _ _ _ a (contents.unnamed-holds B (s .image) u)
+          ∙ ap (λ (b : Bool). unless b (negsuc 11) (pos 0)) (le-leb filesMax (length fs) (omega (arith, files-count)))) refl)
+
+      go : {r : Found} → FindView t number r → findOf t number ≡ r → Ends B N l fits (create number) s (changedIn s (createOf t number))
+      go (high k) q =
+          by (cases.create-refused t number (findOf t number) refl q) (refused 21 (omega arith) refl (laws.number-high number fs _ _ _ k) refl)
+      go (at i a b p) q =
+          by (cases.create-exists t number (findOf t number) refl i q)
+          (refused 16 (omega arith) refl (laws.number-some number fs _ _ _ a (contents.placed-holds B (s .image) p)) refl)
+      go (missing a u) q =
+          ltb-cases (t .count) filesMax (λ b. Ends B N l fits (create number) s (changedIn s (createOf t number))) (new q a u) (full q a u)
+
+  -- ---- remove
+
+  abbrev rest : List Entry
+  rest = withoutOf number (held t)
+
+  pub remove-step : (fits : Bool) → Ends B N l fits (remove number) s (changedIn s (removeOf t number))
+  remove-step fits = go (find-view t number ok) refl
+    where
+      by : {c : Changed} → c ≡ removeOf t number → Ends B N l fits (remove number) s (changedIn s c)
+          → Ends B N l fits (remove number) s (changedIn s (removeOf t number))
+      by q e = subst (λ (c : Changed). Ends B N l fits (remove number) s (changedIn s c)) q e
+
+      go : {r : Found} → FindView t number r → findOf t number ≡ r → Ends B N l fits (remove number) s (changedIn s (removeOf t number))
+      go (high k) q =
+          by (cases.remove-refused t number (findOf t number) refl q) (refused 21 (omega arith) refl (laws.number-high number fs _ _ _ k) refl)
+      go (missing a u) q =
+          by (cases.remove-missing t number (findOf t number) refl q)
+          (refused 1 (omega arith) refl (laws.number-none number fs _ _ _ a (contents.unnamed-holds B (s .image) u)) refl)
+      go (at i a b p) q =
+          by (sym (laws.remove-old t number i q)) (accepted refl (laws.number-some number fs _ _ _ a (contents.placed-holds B (s .image) p))
+          (rw (held-of rest) (contents.remove-files B (s .image) number (held t)))
+          (record {
+            kept = λ e n x. rw (held-of rest) (contents.without-kept number e (held t) n x);
+            came-in = λ e n x. contents.without-from number e (held t) (rw (held-of rest) at x);
+            reads = λ e x. refl;
+          })
+          (again (tableOf rest) (s .window) (s .image)
+          (removed-ok number (held t) (omega (arith, held-length t ok, count-ok t ok)) (held-ok t ok))
+          (rw (held-of rest) (remove-keeps B N l (s .window) (s .image) (held t) (before h) number))))

@@ -1,0 +1,180 @@
+-- The window is an allocator in the sense of the write's theory, as long as the visits hand over what is listed. Assumes nothing.
+use mathlib.Core.Path.{_≡_, refl, sym, ap, _∙_, subst}
+use mathlib.Core.Logic.{_⊎_, inl, inr}
+use mathlib.Core.Bool.{Bool, true, false}
+use mathlib.Core.List.{List, [], _∷_}
+use Prim.Native.Nat.{ℕ, _+_, _-_, _%_, _≤_, _<_}
+use native.Mathlib.Omega.{arith}
+use lib.ListN.{length}
+use Rattle.card.specs.Card.{Card}
+use Rattle.device.specs.Device.{refusesErase, refusesProgram}
+use Rattle.files.specs.declared.Table.{Table}
+use Rattle.grow.specs.Supply.{Took, Block, None, Bad}
+use Rattle.grow.specs.Extend.{tookOf, windowAlloc}
+use Rattle.window.specs.declared.Lookahead.{Lookahead}
+use Rattle.window.specs.declared.Answer.{Answer}
+use Rattle.window.specs.declared.Answer.the-variants as answer
+use Rattle.window.specs.Allocate.{allocOf}
+use Rattle.window.specs.Scan.{Seen, has}
+use Rattle.window.specs.Value.{Sizes}
+use Rattle.window.proofs.Cases.{no-both}
+use Rattle.windows.specs.Call.{Claim, Says, cleanly, exactly, On, Handed, View, handed, full, bad, Result, Lists, During, New}
+use Rattle.windows.specs.Space.{unlistedFrom, goodIn, bit}
+use Rattle.windows.proofs.Has.{has-head, has-tail}
+use Rattle.windows.proofs.Alloc.{alloc-view}
+use Rattle.windows.proofs.InCall as incall
+use Rattle.windows.proofs.Exact.{view, handed-first, full-none, good-nil, good-cons}
+use Rattle.windows.proofs.Listed.{lists-tells}
+use Rattle.writes.specs.Allocator.{In, Known, Stays, bump, Taken, Allocator}
+use Rattle.alloc.specs.Visits.{seenIn}
+use Rattle.demands.specs.Space.{goodOf, goodBlock}
+
+-- ---- what an answer tells
+
+took-block : (a : Answer) (v w : Lookahead) (k : ℕ) → tookOf a v ≡ Block k w → (a ≡ answer.Block k) × (v ≡ w)
+took-block (answer.Block b) v w k e = (let q : b ≡ k = cc in ap answer.Block q, cc)
+took-block answer.NoSpace v w k e = let z : _≡_ {A = ℕ} 0 1 = cc in absurd (omega arith)
+took-block answer.Damaged v w k e = let z : _≡_ {A = ℕ} 0 1 = cc in absurd (omega arith)
+took-block answer.Refused v w k e = let z : _≡_ {A = ℕ} 0 1 = cc in absurd (omega arith)
+
+took-none : (a : Answer) (v w : Lookahead) → tookOf a v ≡ None w → (a ≡ answer.NoSpace) × (v ≡ w)
+took-none (answer.Block b) v w e = let z : _≡_ {A = ℕ} 0 1 = cc in absurd (omega arith)
+took-none answer.NoSpace v w e = (refl, cc)
+took-none answer.Damaged v w e = let z : _≡_ {A = ℕ} 0 1 = cc in absurd (omega arith)
+took-none answer.Refused v w e = let z : _≡_ {A = ℕ} 0 1 = cc in absurd (omega arith)
+
+-- an allocation that is damaged or refused
+took-bad : (a : Answer) (v w : Lookahead) → tookOf a v ≡ Bad w → (a ≡ answer.Damaged) ⊎ (a ≡ answer.Refused)
+took-bad (answer.Block b) v w e = let z : _≡_ {A = ℕ} 0 1 = cc in absurd (omega arith)
+took-bad answer.NoSpace v w e = let z : _≡_ {A = ℕ} 0 1 = cc in absurd (omega arith)
+took-bad answer.Damaged v w e = inl refl
+took-bad answer.Refused v w e = inr refl
+
+view-block : {R : Claim} {base n : ℕ} {ok : Bool} {c : ℕ} {q : Answer} {v : Lookahead} (k : ℕ) → View R base n ok c q v → q ≡ answer.Block k
+    → Handed R base n c k (v .ckpoint) × On base n v
+view-block {R} {base} {n} {ok} {c} {v = v} k (handed {b = b} h o) e =
+    let q : b ≡ k = cc in (subst (λ (x : ℕ). Handed R base n c x (v .ckpoint)) q h, o)
+view-block k (full _ _ _) e = let z : _≡_ {A = ℕ} 0 1 = cc in absurd (omega arith)
+view-block k (bad _ _ _) e = let z : _≡_ {A = ℕ} 0 1 = cc in absurd (omega arith)
+
+view-none : {R : Claim} {base n : ℕ} {ok : Bool} {c : ℕ} {q : Answer} {v : Lookahead} → View R base n ok c q v → q ≡ answer.NoSpace
+    → ((k : ℕ) → n - c ≤ k → k < n → R ((base + k) % n) true) × On base n v
+view-none (handed _ _) e = let z : _≡_ {A = ℕ} 0 1 = cc in absurd (omega arith)
+view-none (full c p o) e = (p, o)
+view-none (bad _ _ _) e = let z : _≡_ {A = ℕ} 0 1 = cc in absurd (omega arith)
+
+view-bad : {R : Claim} {base n : ℕ} {ok : Bool} {c : ℕ} {q : Answer} {v : Lookahead} → View R base n ok c q v
+    → (q ≡ answer.Damaged) ⊎ (q ≡ answer.Refused) → ok ≡ false
+view-bad (handed _ _) (inl e) = let z : _≡_ {A = ℕ} 0 1 = cc in absurd (omega arith)
+view-bad (handed _ _) (inr e) = let z : _≡_ {A = ℕ} 0 1 = cc in absurd (omega arith)
+view-bad (full _ _ _) (inl e) = let z : _≡_ {A = ℕ} 0 1 = cc in absurd (omega arith)
+view-bad (full _ _ _) (inr e) = let z : _≡_ {A = ℕ} 0 1 = cc in absurd (omega arith)
+view-bad (bad f _ _) e = f
+
+-- ---- membership
+
+-- a block that was handed out is among those
+pub in-has : (k : ℕ) (out : List ℕ) → In k out → has out k ≡ true
+in-has k [] u = absurd u
+in-has k (x ∷ xs) (inl e) = subst (λ (z : ℕ). has (x ∷ xs) z ≡ true) e (has-head x xs)
+in-has k (x ∷ xs) (inr u) = has-tail x xs k (in-has k xs u)
+
+bump-is : (health : List ℕ) (k n : ℕ) → bump (refusesErase health k) (refusesProgram health k) n ≡ bit (goodBlock health k) + n
+bump-is health k n = go (refusesErase health k) (refusesProgram health k)
+  where
+    go : (s t : Bool) → bump s t n ≡ bit (goodOf s t) + n
+    go true t = omega arith
+    go false true = omega arith
+    go false false = omega arith
+
+-- ---- the allocator
+
+-- the listed blocks
+abbrev pub Listed : List ℕ → ℕ → Type 0
+Listed listed k = has listed k ≡ true
+
+-- within a call that began on the image img₀, from the place base of the circle
+pub record InCall (B n l : ℕ) (listed img₀ : List ℕ) (base : ℕ) (w : Lookahead) (out img : List ℕ) : Type 0 where
+  pub during : During n l listed w out
+  pub on : On base n w
+  pub card : Card B n (length img)
+  pub stays : Stays B (Listed listed) img₀ img
+
+-- the good unlisted blocks that are yet to come
+abbrev pub goodsLeft : List ℕ → ℕ → List ℕ → ℕ → Lookahead → ℕ
+goodsLeft health n listed base w = goodIn (goodBlock health) (unlistedFrom base n listed (w .ckpoint))
+
+-- where the marks are exact
+abbrev pub ExactFor : ℕ → List ℕ → Lookahead → Type 0
+ExactFor n listed w = Says (exactly listed) n w
+
+module _ (B n l : ℕ) (health listed : List ℕ) (t : Table) (z : Sizes n l) (img₀ : List ℕ) (base : ℕ)
+    (told : (img : List ℕ) → Card B n (length img) → Stays B (Listed listed) img₀ img → Lists n listed (seenIn B n img t)) where
+  -- what a scan is told
+  abbrev see : List ℕ → Seen
+  see img = seenIn B n img t
+
+  took : (w : Lookahead) (img : List ℕ) (r : Took Lookahead) → windowAlloc B n l t w img ≡ r
+      → tookOf (allocOf n l (see img) w .answer) (allocOf n l (see img) w .window) ≡ r
+  unfolding windowAlloc
+  took w img r e = e
+
+  result : (w : Lookahead) (out img : List ℕ) → InCall B n l listed img₀ base w out img
+      → Result (cleanly listed) base n l (see img .ok) (w .ckpoint) (allocOf n l (see img) w)
+  result w out img o =
+      let tl = lists-tells (told img (o .card) (o .stays)) in
+      alloc-view (cleanly listed) base n l (see img) z (tl .low) (λ ok b e. tl .cover ok b e) w (o .during .valid) (o .during .clean) (o .on)
+
+  exactly-result : (w : Lookahead) (out img : List ℕ) → InCall B n l listed img₀ base w out img → ExactFor n listed w
+      → Result (exactly listed) base n l (see img .ok) (w .ckpoint) (allocOf n l (see img) w)
+  exactly-result w out img o x = view n l listed (see img) z (told img (o .card) (o .stays)) base w (o .during .valid) x (o .on)
+
+  -- The window keeps the laws of an allocator: what it hands out is unlisted and new, and where its marks are exact it is short of blocks exactly if none is left.
+  pub windowed : Allocator B n health (λ (w : Lookahead). w .ckpoint) (windowAlloc B n l t) (Listed listed) (InCall B n l listed img₀ base)
+      (ExactFor n listed) (goodsLeft health n listed base)
+  windowed = record { taken = taken; none = none; never = never; frame = frame }
+    where
+      frame : (w : Lookahead) (out img img′ : List ℕ) → InCall B n l listed img₀ base w out img → Card B n (length img′)
+          → Stays B (Listed listed) img img′ → InCall B n l listed img₀ base w out img′
+      frame w out img img′ o c s = record { during = o .during; on = o .on; card = c; stays = λ k p u h. s k p u h ∙ o .stays k p u h }
+
+      taken : (w w′ : Lookahead) (out img : List ℕ) (k : ℕ) → InCall B n l listed img₀ base w out img → windowAlloc B n l t w img ≡ Block k w′
+          → Taken n health (λ (w : Lookahead). w .ckpoint) (Listed listed) (InCall B n l listed img₀ base) (ExactFor n listed) (goodsLeft health n listed base)
+          w w′ out img k
+      taken w w′ out img k o e =
+          let a = took-block (allocOf n l (see img) w .answer) (allocOf n l (see img) w .window) w′ k (took w img _ e) in
+          let tl = lists-tells (told img (o .card) (o .stays)) in
+          let nw = incall.new-block n l listed (see img) z tl k (o .during) (a .0) in
+          let v = view-block k (result w out img o .view) (a .0) in
+          rw (← (a .1)) (record {
+            low = nw .below;
+            new = λ k′ u q. other nw k′ u q;
+            ok = record { during = incall.goes-on n l listed (see img) z tl k (o .during) (a .0); on = v .1; card = o .card; stays = o .stays };
+            fewer = omega (arith, v .0 .from, v .0 .below);
+            exact = λ x. exactly-result w out img o x .says;
+            count = λ x.
+                let h = view-block k (exactly-result w out img o x .view) (a .0) .0 in
+                ap (goodIn (goodBlock health)) (handed-first base n listed (w .ckpoint) k (allocOf n l (see img) w .window .ckpoint) (o .during .valid .ck-le) h)
+                ∙ good-cons (goodBlock health) k _ ∙ sym (bump-is health k _);
+          })
+        where
+          other : New n listed out k → (k′ : ℕ) → Known (Listed listed) out k′ → k ≡ k′ → ⊥
+          other nw k′ (inl u) q = no-both (has listed k′) u (subst (λ (x : ℕ). has listed x ≡ false) q (nw .unlisted))
+          other nw k′ (inr u) q = no-both (has out k′) (in-has k′ out u) (subst (λ (x : ℕ). has out x ≡ false) q (nw .other))
+
+      none : (w w′ : Lookahead) (out img : List ℕ) → InCall B n l listed img₀ base w out img → windowAlloc B n l t w img ≡ None w′
+          → InCall B n l listed img₀ base w′ out img × (ExactFor n listed w → goodsLeft health n listed base w ≡ 0)
+      none w w′ out img o e =
+          let a = took-none (allocOf n l (see img) w .answer) (allocOf n l (see img) w .window) w′ (took w img _ e) in
+          let tl = lists-tells (told img (o .card) (o .stays)) in
+          let v = view-none (result w out img o .view) (a .0) in (
+            subst (λ (u : Lookahead). InCall B n l listed img₀ base u out img) (a .1)
+                (record { during = incall.stays n l listed (see img) z tl (o .during) (a .0); on = v .1; card = o .card; stays = o .stays }),
+            λ x. let p = view-none (exactly-result w out img o x .view) (a .0) .0 in
+                ap (goodIn (goodBlock health)) (full-none base n listed (w .ckpoint) (o .during .valid .ck-le) p) ∙ good-nil (goodBlock health),
+          )
+
+      never : (w w′ : Lookahead) (out img : List ℕ) → InCall B n l listed img₀ base w out img → windowAlloc B n l t w img ≡ Bad w′ → ⊥
+      never w w′ out img o e =
+          no-both (see img .ok) (told img (o .card) (o .stays) .ok)
+          (view-bad (result w out img o .view) (took-bad (allocOf n l (see img) w .answer) (allocOf n l (see img) w .window) w′ (took w img _ e)))

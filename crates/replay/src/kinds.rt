@@ -1,0 +1,249 @@
+// One record of each kind asked of the proved function, and held to the answer that the record has.
+//
+// Its first four words are the answer: 0 or the refusal without its sign, and up to three values. The question follows.
+use crate::list::part;
+use crate::list::place;
+use crate::list::signed;
+use crate::list::table;
+use crate::list::window;
+use crate::list::word;
+use ctz::Found;
+use ctz::visit::Begun;
+use ctz::visit::Step;
+use ctz::visit::Visit;
+use files::Entry;
+use files::Sought;
+use files::Table;
+use grow::Growth;
+use layout::Geometry;
+use layout::Place;
+use window::Answer;
+use window::Lookahead;
+
+// Whether these are the four words of the answer.
+fn told(list: &[u8], at: usize, code: u32, first: u32, second: u32, third: u32) -> bool {
+    if code != word(list, at, 0) {
+        return false;
+    }
+    if first != word(list, at, 1) {
+        return false;
+    }
+    if second != word(list, at, 2) {
+        return false;
+    }
+    third == word(list, at, 3)
+}
+
+// The geometry of a card: its first two words.
+fn geometry(list: &[u8], card: usize) -> Geometry {
+    Geometry {
+        block_size: word(list, card, 0),
+        block_count: word(list, card, 1),
+    }
+}
+
+// The image of a card: the place and the length of its bytes.
+fn image<'a>(list: &'a [u8], card: usize) -> &'a [u8] {
+    part(list, place(list, card, 3), place(list, card, 4))
+}
+
+// Index and offset of a position.
+pub fn index(list: &[u8], at: usize) -> bool {
+    let found = layout::ctz_index(word(list, at, 4), word(list, at, 5));
+    match found {
+        Place::At { index, offset } => told(list, at, 0, index, offset, 0),
+        Place::Refused => told(list, at, 22, 0, 0, 0),
+    }
+}
+
+// Block, offset and hops of a position.
+pub fn find(list: &[u8], at: usize) -> bool {
+    let card = place(list, at, 4);
+    let found = ctz::ctz_find(
+        geometry(list, card),
+        image(list, card),
+        word(list, at, 5),
+        word(list, at, 6),
+        word(list, at, 7),
+    );
+    match found {
+        Found::At {
+            block,
+            offset,
+            hops,
+        } => told(list, at, 0, block, offset, hops),
+        Found::Damaged => told(list, at, 84, 0, 0, 0),
+        Found::Refused => told(list, at, 22, 0, 0, 0),
+    }
+}
+
+// The blocks that a visit hands over, in their order, and how many: at most 64.
+fn visited(list: &[u8], at: usize, card: usize, blocks: usize, begun: Visit) -> bool {
+    let g = geometry(list, card);
+    let mut v = begun;
+    let mut i: u32 = 0;
+    while i < 64 {
+        let step = ctz::visit::ctz_traverse(g, image(list, card), v);
+        match step {
+            Step::Last { block } => {
+                if block != word(list, blocks, i) {
+                    return false;
+                }
+                return told(list, at, 0, i + 1, 0, 0);
+            }
+            Step::More { block, next } => {
+                if block != word(list, blocks, i) {
+                    return false;
+                }
+                v = next;
+            }
+            Step::Damaged => {
+                return told(list, at, 84, i, 0, 0);
+            }
+            Step::Refused => {
+                return told(list, at, 22, i, 0, 0);
+            }
+        }
+        i += 1;
+    }
+    false
+}
+
+// The blocks of a list, last index first.
+pub fn visit(list: &[u8], at: usize) -> bool {
+    let card = place(list, at, 4);
+    let begun = ctz::visit::ctz_visit(geometry(list, card), word(list, at, 5), word(list, at, 6));
+    match begun {
+        Begun::Empty => told(list, at, 0, 0, 0, 0),
+        Begun::At { visit } => visited(list, at, card, place(list, at, 7), visit),
+        Begun::Refused => told(list, at, 22, 0, 0, 0),
+    }
+}
+
+// Bit `o` of a map; 0 past its end.
+fn bit(map: [u8; 64], o: u32) -> u8 {
+    let i = (o / 8) as usize;
+    if i < 64 {
+        return (map[i] >> ((o % 8) as u8)) % 2;
+    }
+    0
+}
+
+// Whether two maps agree from bit `next` on.
+fn same_map(ours: [u8; 64], theirs: [u8; 64], next: u32) -> bool {
+    let mut o = next;
+    while o < 512 {
+        if bit(ours, o) != bit(theirs, o) {
+            return false;
+        }
+        o += 1;
+    }
+    true
+}
+
+// Whether two windows agree: all numbers, and the map of the blocks that are not passed yet.
+fn same_window(ours: Lookahead, theirs: Lookahead) -> bool {
+    if ours.start != theirs.start {
+        return false;
+    }
+    if ours.next != theirs.next {
+        return false;
+    }
+    if ours.size != theirs.size {
+        return false;
+    }
+    if ours.ckpoint != theirs.ckpoint {
+        return false;
+    }
+    let map = ours.map;
+    let wanted = theirs.map;
+    same_map(map, wanted, ours.next)
+}
+
+// One allocation: the block, and the window afterwards.
+pub fn alloc(list: &[u8], at: usize) -> bool {
+    let card = place(list, at, 4);
+    let got = alloc::alloc(
+        geometry(list, card),
+        word(list, card, 2),
+        image(list, card),
+        table(list, place(list, card, 6)),
+        window(list, place(list, at, 5)),
+    );
+    if !same_window(got.window, window(list, place(list, at, 6))) {
+        return false;
+    }
+    let answer = got.answer;
+    match answer {
+        Answer::Block(block) => told(list, at, 0, block, 0, 0),
+        Answer::NoSpace => told(list, at, 28, 0, 0, 0),
+        Answer::Damaged => told(list, at, 84, 0, 0, 0),
+        Answer::Refused => told(list, at, 22, 0, 0, 0),
+    }
+}
+
+// One growth on this image: block and offset with the window afterwards, or the whole image afterwards.
+fn grown(list: &[u8], at: usize, card: usize, image: &mut [u8], whole: bool) -> bool {
+    let g = geometry(list, card);
+    let grew = grow::ctz_extend(
+        g,
+        word(list, card, 2),
+        image,
+        part(list, place(list, card, 5), g.block_count as usize),
+        table(list, place(list, card, 6)),
+        window(list, place(list, at, 5)),
+        word(list, at, 7),
+        word(list, at, 8),
+    );
+    if whole {
+        let length = image.len();
+        return check::same(image, part(list, place(list, at, 9), length));
+    }
+    if !same_window(grew.window, window(list, place(list, at, 6))) {
+        return false;
+    }
+    let answer = grew.answer;
+    match answer {
+        Growth::Grown { block, offset } => told(list, at, 0, block, offset, 0),
+        Growth::Full => told(list, at, 28, 0, 0, 0),
+        Growth::Damaged => told(list, at, 84, 0, 0, 0),
+        Growth::Refused => told(list, at, 22, 0, 0, 0),
+    }
+}
+
+// One growth on a copy of the card's image, which has at most 2,048 bytes.
+pub fn extend(list: &[u8], at: usize, whole: bool) -> bool {
+    let card = place(list, at, 4);
+    let before = image(list, card);
+    let length = before.len();
+    let mut space = [0u8; 2048];
+    if 2048 < length {
+        return false;
+    }
+    span::copy(&mut space, 0, before, 0, length);
+    grown(list, at, card, &mut space[..length], whole)
+}
+
+// Where a seek leads in a file of a size.
+pub fn seek(list: &[u8], at: usize) -> bool {
+    let size = word(list, at, 4);
+    let mut t = Table::empty();
+    t.files[0] = Entry {
+        number: 7,
+        size: size,
+        head: if size == 0 { Geometry::NULL } else { 3 },
+    };
+    t.count = 1;
+    let sought = files::seek(
+        t,
+        7,
+        word(list, at, 5),
+        signed(word(list, at, 6)),
+        signed(word(list, at, 7)),
+    );
+    match sought {
+        Sought::At(position) => told(list, at, 0, position, 0, 0),
+        Sought::Missing => told(list, at, 2, 0, 0, 0),
+        Sought::Refused => told(list, at, 22, 0, 0, 0),
+    }
+}

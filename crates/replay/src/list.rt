@@ -1,0 +1,83 @@
+// The list of answers, read in small steps. Past its end a word is 0 and a part is empty, so nothing is asked of the file.
+use files::Entry;
+use files::Table;
+use window::Lookahead;
+
+// Word `k`, low byte first, of what stands at byte `at`.
+pub fn word(list: &[u8], at: usize, k: u32) -> u32 {
+    let from = 4 * k as usize;
+    if list.len() < at {
+        return 0;
+    }
+    if list.len() - at < from + 4 {
+        return 0;
+    }
+    span::word(list, at + from)
+}
+
+// The place in the list that a word names.
+pub fn place(list: &[u8], at: usize, k: u32) -> usize {
+    word(list, at, k) as usize
+}
+
+// The `length` bytes from `at` on.
+pub fn part<'a>(list: &'a [u8], at: usize, length: usize) -> &'a [u8] {
+    if list.len() < at {
+        return &list[0..0];
+    }
+    if list.len() - at < length {
+        return &list[0..0];
+    }
+    &list[at..at + length]
+}
+
+// A word as a signed number.
+pub fn signed(x: u32) -> i32 {
+    if x < 2147483648 {
+        x as i32
+    } else {
+        !((4294967295 - x) as i32)
+    }
+}
+
+// The map of a window: 64 bytes from `at` on.
+fn map(list: &[u8], at: usize) -> [u8; 64] {
+    let mut bytes = [0u8; 64];
+    let found = part(list, at, 64);
+    if found.len() == 64 {
+        span::copy(&mut bytes, 0, found, 0, 64);
+    }
+    bytes
+}
+
+// The window at `at`: start, next, size, checkpoint count, and the place of its map.
+pub fn window(list: &[u8], at: usize) -> Lookahead {
+    let bytes = map(list, place(list, at, 4));
+    Lookahead {
+        map: bytes,
+        start: word(list, at, 0),
+        next: word(list, at, 1),
+        size: word(list, at, 2),
+        ckpoint: word(list, at, 3),
+    }
+}
+
+// The table at `at`: how many files, and the size and head of each; their numbers rise from 0.
+pub fn table(list: &[u8], at: usize) -> Table {
+    let mut t = Table::empty();
+    let count = word(list, at, 0);
+    if Table::MOST < count {
+        return t;
+    }
+    let mut i: u32 = 0;
+    while i < count {
+        t.files[i as usize] = Entry {
+            number: i,
+            size: word(list, at, 2 * i + 1),
+            head: word(list, at, 2 * i + 2),
+        };
+        i += 1;
+    }
+    t.count = count;
+    t
+}

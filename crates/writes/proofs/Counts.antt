@@ -1,0 +1,188 @@
+-- How many blocks a growth and a write take on any list, sound or not: only blocks that the allocator hands out are touched, so its laws hold throughout. Assumes nothing.
+use mathlib.Core.Path.{_≡_, refl, sym, ap, _∙_}
+use mathlib.Core.Logic.{_≢_, _⊎_, inl, inr}
+use mathlib.Core.Bool.{Bool, true, false}
+use mathlib.Core.List.{List, _∷_}
+use Prim.Native.Nat.{ℕ, zero, suc, _+_, _*_, _^_, _≤_, _<_}
+use native.Mathlib.Nat.{add-suc, suc-add, zero-add}
+use native.Mathlib.Omega.{arith}
+use borrow.Author.Tests.{eq-eqb, ne-eqb}
+use lib.Dec.{ltb}
+use lib.ListN.{length, drop, length-take}
+use Rattle.span.specs.Words.{bytes32}
+use Rattle.span.proofs.Words.{length-bytes32}
+use Rattle.layout.specs.Layout.{pointers, start, InBlock, indexAt, offsetAt}
+use Rattle.layout.proofs.Laws.{pointers-zero}
+use Rattle.layout.proofs.Places.{offset-inside, offset-of, next-place, Same, Next}
+use Rattle.card.specs.Blocks.{pointer}
+use Rattle.card.specs.Card.{Card}
+use Rattle.device.specs.Device.{stored, wiped, refusesErase, refusesProgram}
+use Rattle.grow.specs.declared.Growth.the-variants.{Grown, Full, Damaged}
+use Rattle.grow.specs.Supply.{Took, Block, None, Bad}
+use Rattle.grow.specs.Grow.{GrowOut, part, pointersOf, linkOf, spoils, growOf}
+use Rattle.writes.specs.Cells.{cell}
+use Rattle.writes.specs.Allocator.{Taken, Allocator}
+use Rattle.writes.proofs.Cells.{stored-card, stored-other}
+use Rattle.writes.proofs.Index.{in-block, roomy}
+use Rattle.writes.proofs.Grows.{wiped-card, wiped-other, spoilt-two}
+use Rattle.writes.proofs.Links.{at-zero}
+
+-- only block k of the card changes
+pub record Only (B N k : ℕ) (img img′ : List ℕ) : Type 0 where
+  pub card : Card B N (length img′)
+  pub others : (k′ o′ : ℕ) → k ≢ k′ → o′ < B → cell B img′ k′ o′ ≡ cell B img k′ o′
+
+pub part-short : (B f o n : ℕ) (img : List ℕ) → length (part B f o n img) ≤ n
+unfolding part
+part-short B f o n img = rw (length-take n (drop (f * B + o) img)) (omega arith)
+
+module _ (B N k : ℕ) where
+  none-of : (img : List ℕ) → Card B N (length img) → Only B N k img img
+  none-of img c = record { card = c; others = λ k′ o′ ne l. refl }
+
+  pub store-only : (o : ℕ) (vs img : List ℕ) → Card B N (length img) → o + length vs ≤ B → Only B N k img (stored B k o vs img)
+  store-only o vs img c r = record { card = stored-card B k o vs img N c; others = stored-other B k o vs img r }
+
+  pub both : {img img₁ img₂ : List ℕ} → Only B N k img img₁ → Only B N k img₁ img₂ → Only B N k img img₂
+  both a b = record { card = b .card; others = λ k′ o′ ne l. b .others k′ o′ ne l ∙ a .others k′ o′ ne l }
+
+-- ---- one try
+
+-- what a try with block k leaves: it is grown at the offset of position s, or the list is damaged
+record Tried {W : Type 0} (B N : ℕ) (ks : W) (img : List ℕ) (k off : ℕ) (o : GrowOut W) : Type 0 where
+  only : Only B N k img (o .image)
+  rest : o .rest ≡ ks
+  answer : (o .answer ≡ Grown k off) ⊎ (o .answer ≡ Damaged)
+
+module _ {W : Type 0} (B N : ℕ) (ks : W) (k : ℕ) where
+  points : (m off x cur : ℕ) (img : List ℕ) → Card B N (length img) → 4 * (x + m) ≤ B → Tried B N ks img k off (pointersOf m B N k off x cur img ks)
+  unfolding pointersOf
+  points zero off x cur img c r = record { only = none-of B N k img c; rest = refl; answer = inl refl }
+  points (suc m) off x cur img c r = go (ltb cur N) refl (points m off (suc x))
+    where
+      go : (t : Bool) → ltb cur N ≡ t
+          → ((cur : ℕ) (img : List ℕ) → Card B N (length img) → 4 * (suc x + m) ≤ B → Tried B N ks img k off (pointersOf m B N k off (suc x) cur img ks))
+          → Tried B N ks img k off (pointersOf (suc m) B N k off x cur img ks)
+      go false e ih = rw (pointersOf, e) (record { only = none-of B N k img c; rest = refl; answer = inr refl })
+      go true e ih =
+          let img₁ = stored B k (4 * x) (bytes32 cur) img in
+          let a = store-only B N k (4 * x) (bytes32 cur) img c (omega (arith, length-bytes32 cur)) in
+          let t = ih (pointer img₁ B cur x) img₁ (a .card) (omega (arith, suc-add x m, add-suc x m)) in
+          rw (pointersOf, e) (record { only = both B N k a (t .only); rest = t .rest; answer = t .answer })
+
+  links : (head : ℕ) (img : List ℕ) → Card B N (length img) → (s : ℕ) → s < 2 ^ 32 → Tried B N ks img k (offsetAt B s) (linkOf B N k head s img ks)
+  unfolding linkOf
+  links head img c zero l =
+      record { only = none-of B N k img c; rest = refl; answer = inl (ap (Grown k) (sym (offset-of B 0 0 (at-zero B) ∙ omega (arith, pointers-zero)))) }
+  links head img c (suc p) l = go (ltb head N) refl (next-place B p ip)
+    where
+      ip : InBlock B p (indexAt B p)
+      ip = in-block B (c .sized) p (omega arith)
+
+      go : (t : Bool) → ltb head N ≡ t → Same B p ⊎ Next B p → Tried B N ks img k (offsetAt B (suc p)) (linkOf B N k head (suc p) img ks)
+      go false e w = rw (linkOf, e) (record { only = none-of B N k img c; rest = refl; answer = inr refl })
+      go true e (inl w) =
+          let ne : suc (offsetAt B p) ≢ B = λ q. omega (arith, q, w .offset, offset-inside B (suc p) (in-block B (c .sized) (suc p) l)) in
+          rw (linkOf, e, ne-eqb (suc (offsetAt B p)) B ne)
+          (record {
+            only = store-only B N k 0 (part B head 0 (suc (offsetAt B p)) img) img c (omega (arith, part-short B head 0 (suc (offsetAt B p)) img, offset-inside B p ip));
+            rest = refl;
+            answer = inl (ap (Grown k) (sym (w .offset)));
+          })
+      go true e (inr w) =
+          let i = suc (indexAt B p) in
+          let is = in-block B (c .sized) (suc p) l in
+          let st : start B i ≤ suc p = rw (w .index) at (is .from) in
+          let r = roomy B (c .sized) (suc p) i l st in
+          let t = points (pointers i) (4 * pointers i) 0 head img c (omega (arith, zero-add (pointers i))) in
+          rw (linkOf, e, eq-eqb (suc (offsetAt B p)) B (w .full), w .offset) t
+
+-- ---- over an allocator
+
+module _ {W : Type 0} (B N : ℕ) (health : List ℕ) (tries : W → ℕ) (alloc : W → List ℕ → Took W)
+    (L : ℕ → Type 0) (Ok : W → List ℕ → List ℕ → Type 0) (Exact : W → Type 0) (goods : W → ℕ)
+    (al : Allocator B N health tries alloc L Ok Exact goods) where
+  -- a block was grown, which is not listed
+  pub record Gets (w : W) (s k : ℕ) (out : List ℕ) (o : GrowOut W) : Type 0 where
+    pub answer : o .answer ≡ Grown k (offsetAt B s)
+    pub low : k < N
+    pub mine : (k′ : ℕ) → L k′ → k ≢ k′
+    pub card : Card B N (length (o .image))
+    pub ok : Ok (o .rest) out (o .image)
+    pub fewer : tries (o .rest) < tries w
+    pub exact : Exact w → Exact (o .rest)
+    pub good : Exact w → refusesProgram health k ≡ false → goods w ≡ suc (goods (o .rest))
+    pub spoilt : Exact w → refusesProgram health k ≡ true → goods w ≡ goods (o .rest)
+
+  -- how a growth ends, on any list
+  pub data Grew (m : ℕ) (w : W) (s : ℕ) (o : GrowOut W) : Type 0 where
+    hurt : o .answer ≡ Damaged → Grew m w s o
+    none : o .answer ≡ Full → (Exact w → tries w < m → goods w ≡ 0) → Grew m w s o
+    gets : (k : ℕ) (out : List ℕ) → Gets w s k out o → Grew m w s o
+
+  -- a block that was passed
+  later : (m k s : ℕ) (w w′ : W) (out img : List ℕ) (o : GrowOut W) → Taken N health tries L Ok Exact goods w w′ out img k → (Exact w → goods w ≡ goods w′)
+      → Grew m w′ s o → Grew (suc m) w s o
+  later m k s w w′ out img o t ge (hurt a) = hurt a
+  later m k s w w′ out img o t ge (none a x) = none a (λ e l. ge e ∙ x (t .exact e) (omega (arith, t .fewer)))
+  later m k s w w′ out img o t ge (gets k′ out′ g) =
+      gets k′ out′ (record {
+        answer = g .answer;
+        low = g .low;
+        mine = g .mine;
+        card = g .card;
+        ok = g .ok;
+        fewer = omega (arith, g .fewer, t .fewer);
+        exact = λ e. g .exact (t .exact e);
+        good = λ e q. ge e ∙ g .good (t .exact e) q;
+        spoilt = λ e q. ge e ∙ g .spoilt (t .exact e) q;
+      })
+
+  module _ (head s : ℕ) (short : s < 2 ^ 32) where
+    pub grew : (m : ℕ) (w : W) (out img : List ℕ) → Card B N (length img) → Ok w out img → Grew m w s (growOf alloc m w health B N head s img)
+    unfolding growOf
+    grew zero w out img c ok = none refl (λ x l. absurd (omega arith))
+    grew (suc m) w out img c ok = by (alloc w img) refl (grew m)
+      where
+        by : (a : Took W) → alloc w img ≡ a
+            → ((w : W) (out img : List ℕ) → Card B N (length img) → Ok w out img → Grew m w s (growOf alloc m w health B N head s img))
+            → Grew (suc m) w s (growOf alloc (suc m) w health B N head s img)
+        by (None w′) e ih = rw (growOf, e) (none refl (λ x l. al .none w w′ out img ok e .1 x))
+        by (Bad w′) e ih = absurd (al .never w w′ out img ok e)
+        by (Block k w′) e ih = step (refusesErase health k) refl (spoils health N k head s) refl
+          where
+            tk : Taken N health tries L Ok Exact goods w w′ out img k
+            tk = al .taken w w′ out img k ok e
+
+            wo : Only B N k img (wiped B k img)
+            wo = record { card = wiped-card B k img N c; others = wiped-other B k img }
+
+            -- an image on which only block k changed
+            moved : (img′ : List ℕ) → Only B N k img img′ → Ok w′ (k ∷ out) img′
+            moved img′ a = al .frame w′ (k ∷ out) img img′ (tk .ok) (a .card) (λ k′ o′ u l. a .others k′ o′ (tk .new k′ (inl u)) l)
+
+            last : refusesErase health k ≡ false → (o : GrowOut W) → Tried B N w′ (wiped B k img) k (offsetAt B s) o → Grew (suc m) w s o
+            last q o t = end (t .answer)
+              where
+                end : (o .answer ≡ Grown k (offsetAt B s)) ⊎ (o .answer ≡ Damaged) → Grew (suc m) w s o
+                end (inr a) = hurt a
+                end (inl a) =
+                    gets k (k ∷ out) (record {
+                      answer = a;
+                      low = tk .low;
+                      mine = λ k′ u. tk .new k′ (inl u);
+                      card = t .only .card;
+                      ok = rw (t .rest) (moved (o .image) (both B N k wo (t .only)));
+                      fewer = rw (t .rest) (tk .fewer);
+                      exact = λ x. rw (t .rest) (tk .exact x);
+                      good = λ x y. rw (t .rest) (rw (q, y) at (tk .count x));
+                      spoilt = λ x y. rw (t .rest) (rw (q, y) at (tk .count x));
+                    })
+
+            step : (x : Bool) → refusesErase health k ≡ x → (y : Bool) → spoils health N k head s ≡ y
+                → Grew (suc m) w s (growOf alloc (suc m) w health B N head s img)
+            step true q y r = rw (growOf, e, q) (later m k s w w′ out img _ tk (λ x. rw q at (tk .count x)) (ih w′ (k ∷ out) img c (tk .ok)))
+            step false q true r =
+                rw (growOf, e, q, r)
+                (later m k s w w′ out img _ tk (λ x. rw (q, spoilt-two health N k head s r) at (tk .count x)) (ih w′ (k ∷ out) (wiped B k img) (wo .card) (moved (wiped B k img) wo)))
+            step false q false r = rw (growOf, e, q, r) (last q _ (links B N w′ k head (wiped B k img) (wo .card) s short))

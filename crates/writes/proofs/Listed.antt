@@ -1,0 +1,86 @@
+-- A list of blocks as an allocator: the write's theorem with nothing abstract left. Assumes nothing.
+use mathlib.Core.Path.{_≡_, refl, ap, subst}
+use mathlib.Core.Logic.{_≢_, _⊎_, inl, inr}
+use mathlib.Core.List.{List, [], _∷_}
+use Prim.Native.Nat.{ℕ, _^_, _<_}
+use native.Mathlib.Omega.{arith}
+use lib.ListN.{length}
+use Rattle.layout.specs.Layout.{start, indexAt}
+use Rattle.card.specs.Card.{Card}
+use Rattle.ctz.specs.Lists.{SoundList}
+use Rattle.grow.specs.Supply.{Block, None, Bad}
+use Rattle.store.specs.Write.{Job, new, putOf, Look, Found}
+use Rattle.writes.specs.Lists.{blockAt}
+use Rattle.writes.specs.Allocator.{In, Known, Stays, Taken, Allocator}
+use Rattle.writes.specs.Supply.{Out, Supply, handOut, goods}
+use Rattle.writes.proofs.Holds.{used}
+use Rattle.writes.proofs.Stands.{others-stand}
+use Rattle.writes.proofs.Writes.{Outcome, write-plain}
+
+-- the lookup, by pointer 0
+abbrev pub lookAt : ℕ → ℕ → ℕ → List ℕ → ℕ → Look
+lookAt B head old img p = Found (blockAt img B head old (indexAt B p))
+
+-- all but the blocks ks count as listed
+abbrev pub Rest : List ℕ → ℕ → Type 0
+Rest ks k = Out k ks
+
+-- the list ks is what is left of ks₀, and holds none of those that were handed out
+pub record InOrder (N : ℕ) (ks₀ ks out img : List ℕ) : Type 0 where
+  pub supply : Supply N ks
+  pub listed : (k : ℕ) → Out k ks₀ → Out k ks
+  pub before : (k : ℕ) → In k out → Out k ks
+
+module _ (B N : ℕ) (health ks₀ : List ℕ) where
+  -- a list of blocks keeps the laws of an allocator
+  pub listed : Allocator B N health length handOut (Rest ks₀) (InOrder N ks₀) (λ ks. Unit {0}) (goods health)
+  unfolding goods
+  listed = record { taken = taken; none = none; never = never; frame = λ w out img img′ o c s. record { supply = o .supply; listed = o .listed; before = o .before } }
+    where
+      taken : (w w′ out img : List ℕ) (k : ℕ) → InOrder N ks₀ w out img → handOut w img ≡ Block k w′
+          → Taken N health length (Rest ks₀) (InOrder N ks₀) (λ ks. Unit {0}) (goods health) w w′ out img k
+      taken [] w′ out img k o e = let z : _≡_ {A = ℕ} 0 1 = cc in absurd (omega arith)
+      taken (x ∷ xs) w′ out img k o e =
+          let ek : x ≡ k = cc in
+          let ew : xs ≡ w′ = cc in
+          rw (← ek, ← ew) (record {
+            low = o .supply .0;
+            new = new-one;
+            ok = record { supply = o .supply .2; listed = λ k′ u. o .listed k′ u .1; before = before };
+            fewer = omega arith;
+            exact = λ u. u;
+            count = λ u. refl;
+          })
+        where
+          new-one : (k′ : ℕ) → Known (Rest ks₀) out k′ → x ≢ k′
+          new-one k′ (inl a) = o .listed k′ a .0
+          new-one k′ (inr a) = o .before k′ a .0
+
+          before : (k′ : ℕ) → (x ≡ k′) ⊎ In k′ out → Out k′ xs
+          before k′ (inl a) = subst (λ (z : ℕ). Out z xs) a (o .supply .1)
+          before k′ (inr a) = o .before k′ a .1
+
+      none : (w w′ out img : List ℕ) → InOrder N ks₀ w out img → handOut w img ≡ None w′ → InOrder N ks₀ w′ out img × (Unit {0} → goods health w ≡ 0)
+      none [] w′ out img o e = let q : [] ≡ w′ = cc in (rw (← q) o, λ u. refl)
+      none (x ∷ xs) w′ out img o e = let z : _≡_ {A = ℕ} 0 1 = cc in absurd (omega arith)
+
+      never : (w w′ out img : List ℕ) → InOrder N ks₀ w out img → handOut w img ≡ Bad w′ → ⊥
+      never [] w′ out img o e = let z : _≡_ {A = ℕ} 0 1 = cc in omega arith
+      never (x ∷ xs) w′ out img o e = let z : _≡_ {A = ℕ} 0 1 = cc in omega arith
+
+  -- A write from the blocks ks₀ on is written if as many good ones are among them as it needs, else refused.
+  pub write-listed : (j : Job) (img : List ℕ) → Card B N (length img) → Supply N ks₀ → SoundList img B N (j .head) (j .old)
+      → ((i : ℕ) → start B i < j .old → Out (blockAt img B (j .head) (j .old) i) ks₀) → 0 < length (j .src) → new j < 2 ^ 32
+      → Outcome B N j (Rest ks₀) (InOrder N ks₀) (λ ks. Unit {0}) (goods health) ks₀ img
+      (putOf (lookAt B (j .head) (j .old)) length handOut health B N j ks₀ img)
+  write-listed j img c su so cl sm ft =
+      write-plain (lookAt B (j .head) (j .old)) B N health length handOut (Rest ks₀) (InOrder N ks₀) (λ ks. Unit {0}) (goods health) listed j ks₀ img
+      (record { card = c; ok = record { supply = su; listed = λ k u. u; before = λ k u. absurd u }; list = so; clear = cl; looks = looks; some = sm; fits = ft })
+    where
+      short : j .old < 2 ^ 32
+      short = omega arith
+
+      looks : (img′ : List ℕ) → Card B N (length img′) → Stays B (Rest ks₀) img img′ → (p : ℕ) → p < j .old
+          → lookAt B (j .head) (j .old) img′ p ≡ Found (blockAt img B (j .head) (j .old) (indexAt B p))
+      looks img′ c′ st p l =
+          ap Found (others-stand B N (Rest ks₀) img img′ (c .sized) st (j .head) (j .old) short so cl .blocks (indexAt B p) (used B N (c .sized) p (j .old) l short))

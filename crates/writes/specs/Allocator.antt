@@ -1,0 +1,52 @@
+-- What a write asks of an allocator, whatever its state W is: five laws.
+use mathlib.Core.Path.{_≡_}
+use mathlib.Core.Bool.{Bool, true, false}
+use mathlib.Core.Logic.{_≢_, _⊎_}
+use mathlib.Core.List.{List, [], _∷_}
+use Prim.Native.Nat.{ℕ, suc, _<_}
+use lib.ListN.{length}
+use Rattle.card.specs.Card.{Card}
+use Rattle.device.specs.Device.{refusesErase, refusesProgram}
+use Rattle.grow.specs.Supply.{Took, Block, None, Bad}
+use Rattle.writes.specs.Cells.{cell}
+
+-- block k is among those of a list
+abbrev pub In : ℕ → List ℕ → Type 0
+In k [] = ⊥
+In k (x ∷ xs) = (x ≡ k) ⊎ In k xs
+
+-- the blocks that must stand: the listed ones, L, and those handed out in this call
+abbrev pub Known : (ℕ → Type 0) → List ℕ → ℕ → Type 0
+Known L out k = L k ⊎ In k out
+
+-- the frame: every byte of every block with P is as before
+abbrev pub Stays : ℕ → (ℕ → Type 0) → List ℕ → List ℕ → Type 0
+Stays B P img img′ = (k o : ℕ) → P k → o < B → cell B img′ k o ≡ cell B img k o
+
+-- one more where a block takes an erase and a program
+abbrev pub bump : Bool → Bool → ℕ → ℕ
+bump true t n = n
+bump false true n = n
+bump false false n = suc n
+
+-- What an allocated block k is: below N, neither listed nor handed out in this call; the tries left fall; and where counts are exact, the good blocks
+-- yet to come are one fewer if k is good.
+pub record Taken {W : Type 0} (N : ℕ) (health : List ℕ) (tries : W → ℕ) (L : ℕ → Type 0) (Ok : W → List ℕ → List ℕ → Type 0)
+    (Exact : W → Type 0) (goods : W → ℕ) (w w′ : W) (out img : List ℕ) (k : ℕ) : Type 0 where
+  pub low : k < N
+  pub new : (k′ : ℕ) → Known L out k′ → k ≢ k′
+  pub ok : Ok w′ (k ∷ out) img
+  pub fewer : tries w′ < tries w
+  pub exact : Exact w → Exact w′
+  pub count : Exact w → goods w ≡ bump (refusesErase health k) (refusesProgram health k) (goods w′)
+
+-- Ok w out img: w is in order, the blocks out were handed out in this call, and img is the image as it stands. Exact and goods are asked only for -28:
+-- where Exact, goods w is the number of good blocks that are yet to come.
+pub record Allocator {W : Type 0} (B N : ℕ) (health : List ℕ) (tries : W → ℕ) (alloc : W → List ℕ → Took W)
+    (L : ℕ → Type 0) (Ok : W → List ℕ → List ℕ → Type 0) (Exact : W → Type 0) (goods : W → ℕ) : Type 0 where
+  pub taken : (w w′ : W) (out img : List ℕ) (k : ℕ) → Ok w out img → alloc w img ≡ Block k w′
+      → Taken N health tries L Ok Exact goods w w′ out img k
+  pub none : (w w′ : W) (out img : List ℕ) → Ok w out img → alloc w img ≡ None w′ → Ok w′ out img × (Exact w → goods w ≡ 0)
+  pub never : (w w′ : W) (out img : List ℕ) → Ok w out img → alloc w img ≡ Bad w′ → ⊥
+  -- the listed blocks are all that it looks at
+  pub frame : (w : W) (out img img′ : List ℕ) → Ok w out img → Card B N (length img′) → Stays B L img img′ → Ok w out img′

@@ -1,0 +1,1 @@
+// Nothing runs here: the crate holds the mathematics of a growth and of a write.
