@@ -10,3 +10,4 @@ pub mod Kept
 pub mod Replaced
 pub mod Seeking
 pub mod Sums
+pub mod Examples

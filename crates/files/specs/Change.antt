@@ -63,6 +63,7 @@ createOf t number =
       | found.Refused ↦ changed change.Refused t
     ]
 
+-- a file removed: -22, -2
 unfoldable pub removeOf : Table → ℕ → Changed
 removeOf t number =
     elim (findOf t number) [
@@ -71,6 +72,7 @@ removeOf t number =
       | found.Refused ↦ changed change.Refused t
     ]
 
+-- -2 no such file; -12 32 files held; -17 exists; -22 table value, file number
 abbrev pub changeCode : Change → ℤ
 changeCode change.Done = pos 0
 changeCode change.Missing = negsuc 1

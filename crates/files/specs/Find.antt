@@ -40,6 +40,7 @@ sizeOf t number =
       | found.Refused ↦ sized.Refused
     ]
 
+-- the same numbers
 abbrev pub sizedCode : Sized → ℤ
 sizedCode (sized.Bytes n) = pos 0
 sizedCode sized.Missing = negsuc 1

@@ -35,6 +35,7 @@ seekOf t number position offset whence =
       | found.Refused ↦ sought.Refused
     ]
 
+-- -2 no such file; -22 table value, file number, position or whence sum
 abbrev pub soughtCode : Sought → ℤ
 soughtCode (sought.At n) = pos 0
 soughtCode sought.Missing = negsuc 1

@@ -28,6 +28,7 @@ pub struct Table {
 }
 
 impl Table {
+    // How many files a table holds, as a length and as a count.
     pub const FILES: usize = 32;
 
     pub const MOST: u32 = Table::FILES as u32;
@@ -99,6 +100,7 @@ pub enum Found {
     Refused,
 }
 
+// The place of file `number` in a table that is valid.
 fn search(t: Table, number: u32) -> Found
     requires { ⌜ tableOk t ≡ true ⌝ }
     ensures { λ r. ⌜ r ≡ searchOf 0 number (held t) ⌝ }
@@ -126,6 +128,7 @@ pub fn find(t: Table, number: u32) -> Found
     Found::Refused
 }
 
+// The size of a file.
 pub enum Sized {
     Bytes(u32),
     Missing,

@@ -157,5 +157,5 @@ product scale d h k = mul-le-mul (le-refl scale) (omega arith)
 pub group-below : (value scale d : ℕ) → value < scale → scale ≤ 2 ^ 32 → d < 128 → value + scale * d < scale * 128
 group-below value scale d v h k = omega (arith, product scale d h k)
 
-pub group-fits : (value scale b limit : ℕ) → Scaled value scale limit → b < 256 → value + scale * (b - 128) < 2 ^ 40
-group-fits value scale b limit s h = omega (arith, group-below value scale (b - 128) (s .below) (s .scale-le) (omega arith), s .scale-le)
+pub group-fits : (value scale b : ℕ) → Scaled value scale → b < 256 → value + scale * (b - 128) < 2 ^ 40
+group-fits value scale b s h = omega (arith, group-below value scale (b - 128) (s .below) (s .scale-le) (omega arith), s .scale-le)

@@ -23,6 +23,7 @@ unfoldable pub more : ℕ → Reading ℕ → Reading ℕ
 more b damaged = damaged
 more b (read v rest) = elim (eqb v 0) [ true ↦ damaged | false ↦ read (b - 128 + 128 * v) rest ]
 
+-- a number: its last group has no top bit
 unfoldable pub readNumber : List ℕ → Reading ℕ
 readNumber [] = damaged
 readNumber (b ∷ bs) = elim (ltb b 128) [ true ↦ read b bs | false ↦ more b (readNumber bs) ]

@@ -18,8 +18,8 @@ pub record Counted (bytes : List ℕ) (most r : ℕ) : Type 0 where
   pub is : r ≡ length bytes
   pub small : r ≤ most
 
--- the groups so far: their value is below the next group's scale, which is in range
-pub record Scaled (value scale limit : ℕ) : Type 0 where
+-- the groups so far: their value is below what the next group counts
+pub record Scaled (value scale : ℕ) : Type 0 where
   pub below : value < scale
   pub scale-le : scale ≤ 2 ^ 32
 
@@ -36,14 +36,17 @@ abbrev pub numberTold : List ℕ → NumberRead → Reading ℕ
 numberTold bytes (number.At value next) = read value (drop next bytes)
 numberTold bytes number.Damaged = damaged
 
+-- the place after it
 abbrev pub numberNext : NumberRead → ℕ
 numberNext (number.At value next) = next
 numberNext number.Damaged = 0
 
+-- a number read at place `at`
 pub record NumberPost (bytes : List ℕ) (at limit : ℕ) (r : NumberRead) : Type 0 where
   pub told : readUpTo limit (drop at bytes) ≡ numberTold bytes r
   pub next-le : numberNext r ≤ length bytes
 
+-- the same of a file
 abbrev pub entryTold : List ℕ → EntryRead → Reading Entry
 entryTold bytes (entry.At e next) = read e (drop next bytes)
 entryTold bytes entry.Damaged = damaged

@@ -36,6 +36,7 @@ readEntry least bs =
       | read number rest ↦ elim (leb least number) [ true ↦ readSize number rest | false ↦ damaged ]
     ]
 
+-- a file before those that follow
 unfoldable pub before : Entry → Reading (List Entry) → Reading (List Entry)
 before e damaged = damaged
 before e (read es rest) = read (e ∷ es) rest
@@ -61,6 +62,7 @@ unfoldable pub loadOf : List ℕ → Loaded
 loadOf bytes =
     elim (readUpTo filesMax bytes) [ damaged ↦ refusedLoad | read count rest ↦ finish (readFiles count 0 rest) ]
 
+-- -84 saved table not in exact form
 abbrev pub loadingCode : Loading → ℤ
 loadingCode loading.Done = pos 0
 loadingCode loading.Damaged = negsuc 83

@@ -21,6 +21,7 @@ headBytes size head = elim (eqb size 0) [ true ↦ [] | false ↦ groups head ]
 unfoldable pub entryBytes : Entry → List ℕ
 entryBytes e = groups (e .number) ++ (groups (e .size) ++ headBytes (e .size) (e .head))
 
+-- file after file
 unfoldable pub filesBytes : List Entry → List ℕ
 filesBytes [] = []
 filesBytes (e ∷ es) = entryBytes e ++ filesBytes es
@@ -41,6 +42,7 @@ savedOf t buffer = elim (savable t (length buffer)) [ true ↦ saved.Bytes (leng
 unfoldable pub bufferOf : Table → List ℕ → List ℕ
 bufferOf t buffer = elim (savable t (length buffer)) [ true ↦ sets buffer 0 (saveOf t) | false ↦ buffer ]
 
+-- -22 table value, save buffer too short
 abbrev pub savedCode : Saved → ℤ
 savedCode (saved.Bytes n) = pos 0
 savedCode saved.Refused = negsuc 21

@@ -48,10 +48,10 @@ fn entry_length(e: Entry) -> u32
     ensures { λ r. ⌜ Counted (entryBytes e) 15 r ⌝ }
 {
     let start = number_length(e.number) + number_length(e.size);
-    if e.size == 0 {
-        return start;
+    if 0 < e.size {
+        return start + number_length(e.head);
     }
-    start + number_length(e.head)
+    start
 }
 
 // How many bytes a table has in the saved form.
@@ -132,6 +132,7 @@ enum NumberRead {
     Damaged,
 }
 
+// A byte as a number.
 fn wide(b: u8) -> u64
     ensures { λ r. ⌜ (r ≡ b) × (r < 256) ⌝ }
 {
@@ -140,7 +141,7 @@ fn wide(b: u8) -> u64
 
 // The last group `b` of a number whose groups before it are worth `value`; it counts `scale`-fold.
 fn last_group(value: u64, scale: u64, b: u64, limit: u32, next: usize) -> NumberRead
-    requires { ⌜ Scaled value scale limit × (b < 128) ⌝ }
+    requires { ⌜ Scaled value scale × (b < 128) ⌝ }
     ensures { λ r. ⌜ r ≡ lastOf value scale b limit next ⌝ }
 {
     if 1 < scale {
@@ -234,6 +235,7 @@ fn read_entry(bytes: &[u8], at: usize, least: u32) -> EntryRead
     }
 }
 
+// The refusal of a load.
 fn damaged_load() -> Loaded
     ensures { λ r. ⌜ r ≡ refusedLoad ⌝ }
 {

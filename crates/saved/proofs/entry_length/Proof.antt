@@ -14,11 +14,6 @@ number-length-requires-2 c κs = search needs
 add-start : tie.Need-add-start
 add-start c = omega (arith, c .before .number-length .ensures .small, c .number-length2 .ensures .small)
 
-returns : tie.Need-returns
-returns c =
-    let b = c .before .before in
-    counted-none _ _ _ (b .before .number-length .ensures) (b .number-length2 .ensures) (c .if1 .taken)
-
 number-length-requires-3 : tie.Need-number-length-requires-3
 number-length-requires-3 c κs = search needs
 
@@ -27,19 +22,17 @@ add-result c =
     let b = c .before .before .before in
     omega (arith, b .before .number-length .ensures .small, b .number-length2 .ensures .small, c .number-length3 .ensures .small)
 
+returns : tie.Need-returns
+returns c =
+    let b = c .before .before .before in
+    counted-some _ _ _ _ (b .before .number-length .ensures) (b .number-length2 .ensures) (c .number-length3 .ensures) (λ z. omega (arith, c .before .if1 .taken))
+
 returns-2 : tie.Need-returns-2
 returns-2 c =
-    let b = c .before .before .before in
-    counted-some _ _ _ _ (b .before .number-length .ensures) (b .number-length2 .ensures) (c .number-length3 .ensures) (c .before .if1 .left)
+    let b = c .before .before in
+    counted-none _ _ _ (b .before .number-length .ensures) (b .number-length2 .ensures) (omega (arith, c .if1 .left))
 
 pub entry-length-spec : {M : Type 1} → statement M
 entry-length-spec =
     tie.close
-    (tie.spec
-    number-length-requires
-    number-length-requires-2
-    add-start
-    returns
-    number-length-requires-3
-    add-result
-    returns-2)
+    (tie.spec number-length-requires number-length-requires-2 add-start number-length-requires-3 add-result returns returns-2)

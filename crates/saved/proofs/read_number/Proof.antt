@@ -12,7 +12,7 @@ use Rattle.saved.proofs.read_number.Tie as tie
 
 abbrev Inv-loop : tie.InvT-loop
 Inv-loop bytes at limit value₀ scale₀ i₀ value scale i =
-    Scaled value scale limit × (zero < scale) × (limit < 2 ^ 32) × (readUpTo limit (drop at bytes) ≡ upTo limit (join value scale (readNumber (drop i bytes))))
+    Scaled value scale × (zero < scale) × (limit < 2 ^ 32) × (readUpTo limit (drop at bytes) ≡ upTo limit (join value scale (readNumber (drop i bytes))))
 
 abbrev μ-loop : tie.MeasureT-loop
 μ-loop bytes at limit value₀ scale₀ i₀ value scale i = length bytes - i
@@ -39,10 +39,10 @@ returns c =
     number-last _ _ _ _ _ _ (l .loop .inv .3) _ _ (c .before .before .before .before .loop-test .taken) (c .before .before .wide .ensures .0) (c .before .if1 .taken) (c .last-group .ensures)
 
 mul-value : tie.Need-mul-value Inv-loop μ-loop
-mul-value c = let i = c .before .before .before .before .loop .inv in omega (arith, group-fits _ _ _ _ (i .0) (c .before .wide .ensures .1))
+mul-value c = let i = c .before .before .before .before .loop .inv in omega (arith, group-fits _ _ _ (i .0) (c .before .wide .ensures .1))
 
 add-value : tie.Need-add-value Inv-loop μ-loop
-add-value c = let i = c .before .before .before .before .loop .inv in omega (arith, group-fits _ _ _ _ (i .0) (c .before .wide .ensures .1))
+add-value c = let i = c .before .before .before .before .loop .inv in omega (arith, group-fits _ _ _ (i .0) (c .before .wide .ensures .1))
 
 mul-scale : tie.Need-mul-scale Inv-loop μ-loop
 mul-scale c = omega (arith, c .before .before .before .before .loop .inv .0 .scale-le)
