@@ -1,6 +1,8 @@
 // One record of each kind asked of the proved function, and held to the answer that the record has.
 //
 // Its first four words are the answer: 0 or the refusal without its sign, and up to three values. The question follows.
+use crate::agree::same_window;
+use crate::agree::told;
 use crate::list::part;
 use crate::list::place;
 use crate::list::signed;
@@ -18,21 +20,6 @@ use grow::Growth;
 use layout::Geometry;
 use layout::Place;
 use window::Answer;
-use window::Lookahead;
-
-// Whether these are the four words of the answer.
-fn told(list: &[u8], at: usize, code: u32, first: u32, second: u32, third: u32) -> bool {
-    if code != word(list, at, 0) {
-        return false;
-    }
-    if first != word(list, at, 1) {
-        return false;
-    }
-    if second != word(list, at, 2) {
-        return false;
-    }
-    third == word(list, at, 3)
-}
 
 // The geometry of a card: its first two words.
 fn geometry(list: &[u8], card: usize) -> Geometry {
@@ -118,46 +105,6 @@ pub fn visit(list: &[u8], at: usize) -> bool {
         Begun::At { visit } => visited(list, at, card, place(list, at, 7), visit),
         Begun::Refused => told(list, at, 22, 0, 0, 0),
     }
-}
-
-// Bit `o` of a map; 0 past its end.
-fn bit(map: [u8; 64], o: u32) -> u8 {
-    let i = (o / 8) as usize;
-    if i < 64 {
-        return (map[i] >> ((o % 8) as u8)) % 2;
-    }
-    0
-}
-
-// Whether two maps agree from bit `next` on.
-fn same_map(ours: [u8; 64], theirs: [u8; 64], next: u32) -> bool {
-    let mut o = next;
-    while o < 512 {
-        if bit(ours, o) != bit(theirs, o) {
-            return false;
-        }
-        o += 1;
-    }
-    true
-}
-
-// Whether two windows agree: all numbers, and the map of the blocks that are not passed yet.
-fn same_window(ours: Lookahead, theirs: Lookahead) -> bool {
-    if ours.start != theirs.start {
-        return false;
-    }
-    if ours.next != theirs.next {
-        return false;
-    }
-    if ours.size != theirs.size {
-        return false;
-    }
-    if ours.ckpoint != theirs.ckpoint {
-        return false;
-    }
-    let map = ours.map;
-    let wanted = theirs.map;
-    same_map(map, wanted, ours.next)
 }
 
 // One allocation: the block, and the window afterwards.

@@ -1,6 +1,7 @@
 // Replays a fixed list of the oracle's answers: each record is asked of the proved function and held to the oracle's answer.
 //
 // From byte 0 on the list has the place of the records of each kind, from byte 32 on their number; docs/DIFFERENCES.md says how it was made.
+mod agree;
 mod kinds;
 mod list;
 

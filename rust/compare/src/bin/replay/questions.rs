@@ -6,33 +6,49 @@ use compare::{grown, layout, Random};
 use oracle::Oracle;
 use tidmaruls::raw::{FILE_MAX, NULL};
 
-/// Lookups and visits of a list and of its beginnings; numbers that the oracle hands back untested are left out.
+/// One lookup; left out where the oracle hands back an untested number.
+fn look_up(answers: &mut Answers, oracle: &mut Oracle, card: u32, list: (u32, u32), position: u32) {
+    let (head, size) = list;
+    let block_count = oracle.device.health.len() as u32;
+    let found = oracle.find(head, size, position);
+    if found.is_ok_and(|found| size > 0 && found.block >= block_count) {
+        return;
+    }
+    let answer = found.map(|found| [found.block, found.offset, found.hops]);
+    answers.record(FIND, answer, &[card, head, size, position]);
+}
+
+/// One visit; left out where it meets a number that is not below the count.
+fn visit(answers: &mut Answers, oracle: &mut Oracle, card: u32, list: (u32, u32)) {
+    let (head, size) = list;
+    let block_count = oracle.device.health.len() as u32;
+    let (code, blocks) = oracle.traverse(head, size);
+    if code != 0 || blocks.iter().any(|&block| block >= block_count) {
+        return;
+    }
+    let count = blocks.len() as u32;
+    let blocks = answers.piece(&bytes_of(&blocks));
+    answers.record(VISIT, Ok([count, 0, 0]), &[card, head, size, blocks]);
+}
+
+/// Lookups and visits of the empty list, of a list and of its beginnings.
 fn ask(answers: &mut Answers, oracle: &mut Oracle, list: &List, random: &mut Random) {
-    let (block_size, block_count) = (oracle.device.block_size, oracle.device.health.len());
+    let block_size = oracle.device.block_size;
     let card = answers.card(oracle, 64);
-    for (top, &head) in list.blocks.iter().enumerate() {
-        let most = layout::start(block_size, top as u32 + 1) as u32;
-        let low = layout::start(block_size, top as u32) as u32;
-        let size = random.between(low + 1, most.min(list.size));
-        let mut targets = vec![0, 1, top as u32 / 2];
-        targets.extend((0..3).map(|_| random.between(0, top as u32)));
-        for target in targets.into_iter().filter(|&target| target < top as u32) {
+    look_up(answers, oracle, card, (NULL, 0), random.number());
+    visit(answers, oracle, card, (NULL, 0));
+    for (top, &head) in (0..).zip(&list.blocks) {
+        let low = layout::start(block_size, top) as u32;
+        let high = layout::start(block_size, top + 1) as u32;
+        let size = random.between(low + 1, high.min(list.size));
+        let mut targets = vec![0, 1, top / 2];
+        targets.extend((0..3).map(|_| random.between(0, top)));
+        for target in targets.into_iter().filter(|&target| target <= top) {
             let start = layout::start(block_size, target) as u32;
-            let position = start + random.below(block_size / 2);
-            let found = oracle.find(head, size, position);
-            if found.is_ok_and(|found| found.block as usize >= block_count) {
-                continue;
-            }
-            let answer = found.map(|found| [found.block, found.offset, found.hops]);
-            answers.record(FIND, answer, &[card, head, size, position]);
+            let position = start + random.below((size - start).min(block_size / 2));
+            look_up(answers, oracle, card, (head, size), position);
         }
-        let (code, blocks) = oracle.traverse(head, size);
-        if code != 0 || blocks.iter().any(|&block| block as usize >= block_count) {
-            continue;
-        }
-        let count = blocks.len() as u32;
-        let blocks = answers.piece(&bytes_of(&blocks));
-        answers.record(VISIT, Ok([count, 0, 0]), &[card, head, size, blocks]);
+        visit(answers, oracle, card, (head, size));
     }
 }
 

@@ -1,8 +1,8 @@
--- `kinds::same_map` is safe and ends: each turn passes one bit of 512. Assumes nothing.
+-- `agree::same_map` is safe and ends: each turn passes one bit of 512. Assumes nothing.
 use Prim.Native.Nat.{_-_}
 use borrow.Author.Needs.{needs}
-use Rattle.replay.proofs.kinds.same_map.Statement.{statement}
-use Rattle.replay.proofs.kinds.same_map.Tie as tie
+use Rattle.replay.proofs.agree.same_map.Statement.{statement}
+use Rattle.replay.proofs.agree.same_map.Tie as tie
 
 abbrev Inv-loop : tie.InvT-loop
 Inv-loop ours theirs next o₀ o = Unit {0}
