@@ -12,6 +12,8 @@ use Rattle.files.specs.Table.{held}
 use Rattle.window.specs.Value.{lookaheadFits}
 use Rattle.demands.specs.Calls.{State, Call, Left, after}
 use Rattle.demands.specs.Came.{Sounds, Came, called}
+use Rattle.demands.specs.Plain.{plainCode}
+use Rattle.demands.specs.Runs.{filesIn}
 use Rattle.demands.specs.Demands.{Accepted, Refused}
 use Rattle.demands.proofs.Contents.{Plainly, Read, same-files}
 use Rattle.demands.proofs.Kept.{Held}
@@ -89,5 +91,14 @@ module _ {B N l : ℕ} {s : State} (came : Came B N l s) (sounds : Sounds B N s)
     where
       go : End → Accepted B N l c s (o .state)
       go (accepted q _ f others h) = record { files = f; others = others; sounds = h .sounds; came = called health c came sounds }
+      go (refused k _ q _ _) = absurd (no-refusal d q)
+      go (short q _ _ _ _ _) = absurd (no-refusal d q)
+
+  -- It is one that the plain files accept.
+  pub accepted-code : after B N l health c s .code ≡ pos 0 → plainCode (healthOk health N && lookaheadFits l) c (filesIn B s) ≡ pos 0
+  accepted-code d = go (step (came-held came sounds) health c)
+    where
+      go : End → plainCode (healthOk health N && lookaheadFits l) c (filesIn B s) ≡ pos 0
+      go (accepted _ p _ _ _) = p
       go (refused k _ q _ _) = absurd (no-refusal d q)
       go (short q _ _ _ _ _) = absurd (no-refusal d q)

@@ -19,6 +19,8 @@ pub mod Came
 pub mod AnyEnd
 pub mod Demands
 pub mod Looks
+pub mod ReadBack
 pub mod AnyVisits
 pub mod Exact
 pub mod Runs
+mod Examples

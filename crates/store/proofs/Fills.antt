@@ -43,7 +43,8 @@ run-cut a n l = go (leb a (length l)) refl
     go false e =
         let h = leb-false a (length l) e in
         let m : min a (length l) ≡ length l = omega arith in
-        rw (m, drop-of-length-le l {i = a} (omega arith), drop-of-length-le l {i = length l} (omega arith), take-nil, take-nil)
+        rw (m, drop-of-length-le l {i = a} (omega arith), drop-of-length-le l {i = length l} (omega arith))
+        (take-nil n ∙ sym (take-nil (min n (length l - length l))))
 
 -- ---- the front
 

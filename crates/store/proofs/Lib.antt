@@ -6,6 +6,7 @@ pub mod Turns
 pub mod Goes
 pub mod Gaps
 pub mod Puts
+pub mod Tested
 pub mod Calls
 pub mod Refusals
 pub mod Examples

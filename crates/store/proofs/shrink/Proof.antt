@@ -9,7 +9,9 @@ put-requires c κs = search needs
 
 returns : tie.Need-returns
 returns c =
-    shrinks-empty (c .before .before .before .args .b) (c .before .before .before .args .n) (c .before .before .before .args .image .now) (c .before .before .before .args .w) (c .before .before .before .args .t5) (c .before .before .before .args .i) (c .before .before .before .args .size) (c .before .if1 .taken) (c .put .ensures)
+    let s = c .before .before .before in
+    let a = s .args in
+    shrinks-empty (a .b) (a .n) (a .image .now) (a .w) (a .t5) (a .i) (a .size) (c .before .if1 .taken) (c .put .ensures)
 
 mul-e : tie.Need-mul-e
 mul-e c = search needs
@@ -37,15 +39,21 @@ enum-told-2 c = search needs
 
 returns-2 : tie.Need-returns-2
 returns-2 c =
-    shrinks-found (c .before .before .before .before .before .before .before .before .args .b) (c .before .before .before .before .before .before .before .before .args .n) (c .before .before .before .before .before .before .before .before .args .image .now) (c .before .before .before .before .before .before .before .before .args .w) (c .before .before .before .before .before .before .before .before .args .t5) (c .before .before .before .before .before .before .before .before .args .i) (c .before .before .before .before .before .before .before .before .args .size) (c .before .before .before .before .before .before .if1 .left) (c .before .before .before .before .find-in .ensures) _ _ _ (c .before .before .found .given .1) (c .put2 .ensures)
+    let s = c .before .before .before .before .before .before .before .before in
+    let a = s .args in
+    shrinks-found (a .b) (a .n) (a .image .now) (a .w) (a .t5) (a .i) (a .size) (c .before .before .before .before .before .before .if1 .left) (c .before .before .before .before .find-in .ensures) _ _ _ (c .before .before .found .given .1) (c .put2 .ensures)
 
 returns-3 : tie.Need-returns-3
 returns-3 c =
-    shrinks-damaged (c .before .before .before .before .before .before .args .b) (c .before .before .before .before .before .before .args .n) (c .before .before .before .before .before .before .args .image .now) (c .before .before .before .before .before .before .args .w) (c .before .before .before .before .before .before .args .t5) (c .before .before .before .before .before .before .args .i) (c .before .before .before .before .before .before .args .size) (c .before .before .before .before .if1 .left) (c .before .before .find-in .ensures) (c .enum-told .given .1)
+    let s = c .before .before .before .before .before .before in
+    let a = s .args in
+    shrinks-damaged (a .b) (a .n) (a .image .now) (a .w) (a .t5) (a .i) (a .size) (c .before .before .before .before .if1 .left) (c .before .before .find-in .ensures) (c .enum-told .given .1)
 
 returns-4 : tie.Need-returns-4
 returns-4 c =
-    shrinks-refused (c .before .before .before .before .before .before .args .b) (c .before .before .before .before .before .before .args .n) (c .before .before .before .before .before .before .args .image .now) (c .before .before .before .before .before .before .args .w) (c .before .before .before .before .before .before .args .t5) (c .before .before .before .before .before .before .args .i) (c .before .before .before .before .before .before .args .size) (c .before .before .before .before .if1 .left) (c .before .before .find-in .ensures) (c .enum-told2 .given .1)
+    let s = c .before .before .before .before .before .before in
+    let a = s .args in
+    shrinks-refused (a .b) (a .n) (a .image .now) (a .w) (a .t5) (a .i) (a .size) (c .before .before .before .before .if1 .left) (c .before .before .find-in .ensures) (c .enum-told2 .given .1)
 
 pub shrink-spec : {M : Type 1} → statement M
 shrink-spec =

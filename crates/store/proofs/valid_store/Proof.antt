@@ -1,6 +1,6 @@
 -- `store::valid_store` meets its contract: each test that fails settles the answer, and the last one is it. Assumes nothing.
 use Rattle.grow.proofs.Tests.{held, fails, lookahead-le}
-use Rattle.store.proofs.Calls.{no-card, no-health, no-lookahead, last-test}
+use Rattle.store.proofs.Tested.{no-card, no-health, no-lookahead, last-test}
 use borrow.Author.Needs.{needs}
 use Rattle.store.proofs.valid_store.Statement.{statement}
 use Rattle.store.proofs.valid_store.Tie as tie

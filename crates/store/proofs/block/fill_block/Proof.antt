@@ -32,7 +32,11 @@ least-requires c κs = search needs
 
 front-requires : tie.Need-front-requires
 front-requires c κs =
-    (room-of _ _ _ (filling-link (c .before .before .before .before .before .before .before .pre) (c .before .before .before .before .before .before .before .args .image .now) refl) refl (share-fits (c .before .before .before .before .before .before .before .args .b) (jobOf (c .before .before .before .before .before .before .before .args .e) (c .before .before .before .before .before .before .before .args .pos) (c .before .before .before .before .before .before .before .args .«data» .now)) (c .before .before .before .before .before .before .before .args .off) (c .before .before .before .before .before .before .before .args .s) (c .before .least .result) (share-is (c .before .before .before .before .before .before .before .args .b) (jobOf (c .before .before .before .before .before .before .before .args .e) (c .before .before .before .before .before .before .before .args .pos) (c .before .before .before .before .before .before .before .args .«data» .now)) (c .before .before .before .before .before .before .before .args .off) (c .before .before .before .before .before .before .before .args .s) _ (c .before .least .result) (c .before .before .before .beyond .ensures) (c .before .least .ensures)) (c .before .before .before .before .before .before .before .pre .room)), omega (arith, c .before .before .before .before .before .before .before .pre .fits))
+    let s = c .before .before .before .before .before .before .before in
+    let a = s .args in
+    let j = jobOf (a .e) (a .pos) (a .«data» .now) in
+    let m = share-is (a .b) j (a .off) (a .s) _ (c .before .least .result) (c .before .before .before .beyond .ensures) (c .before .least .ensures) in
+    (room-of _ _ _ (filling-link (s .pre) (a .image .now) refl) refl (share-fits (a .b) j (a .off) (a .s) (c .before .least .result) m (s .pre .room)), omega (arith, s .pre .fits))
 
 enum-told : tie.Need-enum-told
 enum-told c = search needs
@@ -45,7 +49,11 @@ same-length c = search needs
 
 returns : tie.Need-returns
 returns c =
-    fill-spoiled (lookIn (c .before .before .before .before .before .before .before .before .before .before .before .before .args .b) (c .before .before .before .before .before .before .before .before .before .before .before .before .args .n) (c .before .before .before .before .before .before .before .before .before .before .before .before .args .e)) _ (c .before .before .before .before .before .before .before .before .before .before .before .before .args .b) (jobOf (c .before .before .before .before .before .before .before .before .before .before .before .before .args .e) (c .before .before .before .before .before .before .before .before .before .before .before .before .args .pos) (c .before .before .before .before .before .before .before .before .before .before .before .before .args .«data» .now)) (c .before .before .before .before .before .before .before .before .before .before .before .before .args .k) (c .before .before .before .before .before .before .before .before .before .before .before .before .args .off) (c .before .before .before .before .before .before .before .before .before .before .before .before .args .s) _ (c .before .before .before .before .before .before .least .result) (share-is (c .before .before .before .before .before .before .before .before .before .before .before .before .args .b) (jobOf (c .before .before .before .before .before .before .before .before .before .before .before .before .args .e) (c .before .before .before .before .before .before .before .before .before .before .before .before .args .pos) (c .before .before .before .before .before .before .before .before .before .before .before .before .args .«data» .now)) (c .before .before .before .before .before .before .before .before .before .before .before .before .args .off) (c .before .before .before .before .before .before .before .before .before .before .before .before .args .s) _ (c .before .before .before .before .before .before .least .result) (c .before .before .before .before .before .before .before .before .beyond .ensures) (c .before .before .before .before .before .before .least .ensures)) (c .before .before .before .before .front .ensures) (c .enum-told2 .given .1)
+    let s = c .before .before .before .before .before .before .before .before .before .before .before .before in
+    let a = s .args in
+    let j = jobOf (a .e) (a .pos) (a .«data» .now) in
+    let m = share-is (a .b) j (a .off) (a .s) _ (c .before .before .before .before .before .before .least .result) (c .before .before .before .before .before .before .before .before .beyond .ensures) (c .before .before .before .before .before .before .least .ensures) in
+    fill-spoiled (lookIn (a .b) (a .n) (a .e)) _ (a .b) j (a .k) (a .off) (a .s) _ (c .before .before .before .before .before .before .least .result) m (c .before .before .before .before .front .ensures) (c .enum-told2 .given .1)
 
 beyond-requires-2 : tie.Need-beyond-requires-2
 beyond-requires-2 c κs = search needs
@@ -58,14 +66,22 @@ same-length-2 c = search needs
 
 returns-2 : tie.Need-returns-2
 returns-2 c =
-    fill-whole (lookIn (c .before .before .before .before .before .before .before .before .before .before .before .before .before .before .args .b) (c .before .before .before .before .before .before .before .before .before .before .before .before .before .before .args .n) (c .before .before .before .before .before .before .before .before .before .before .before .before .before .before .args .e)) _ (c .before .before .before .before .before .before .before .before .before .before .before .before .before .before .args .b) (jobOf (c .before .before .before .before .before .before .before .before .before .before .before .before .before .before .args .e) (c .before .before .before .before .before .before .before .before .before .before .before .before .before .before .args .pos) (c .before .before .before .before .before .before .before .before .before .before .before .before .before .before .args .«data» .now)) (c .before .before .before .before .before .before .before .before .before .before .before .before .before .before .args .k) (c .before .before .before .before .before .before .before .before .before .before .before .before .before .before .args .off) (c .before .before .before .before .before .before .before .before .before .before .before .before .before .before .args .s) _ (c .before .before .before .before .before .before .before .before .least .result) (share-is (c .before .before .before .before .before .before .before .before .before .before .before .before .before .before .args .b) (jobOf (c .before .before .before .before .before .before .before .before .before .before .before .before .before .before .args .e) (c .before .before .before .before .before .before .before .before .before .before .before .before .before .before .args .pos) (c .before .before .before .before .before .before .before .before .before .before .before .before .before .before .args .«data» .now)) (c .before .before .before .before .before .before .before .before .before .before .before .before .before .before .args .off) (c .before .before .before .before .before .before .before .before .before .before .before .before .before .before .args .s) _ (c .before .before .before .before .before .before .before .before .least .result) (c .before .before .before .before .before .before .before .before .before .before .beyond .ensures) (c .before .before .before .before .before .before .before .before .least .ensures)) (c .before .before .before .before .before .before .front .ensures) (c .before .before .enum-told .given .1) _ (c .before .beyond2 .ensures) (c .if1 .taken)
+    let s = c .before .before .before .before .before .before .before .before .before .before .before .before .before .before in
+    let a = s .args in
+    let j = jobOf (a .e) (a .pos) (a .«data» .now) in
+    let m = share-is (a .b) j (a .off) (a .s) _ (c .before .before .before .before .before .before .before .before .least .result) (c .before .before .before .before .before .before .before .before .before .before .beyond .ensures) (c .before .before .before .before .before .before .before .before .least .ensures) in
+    fill-whole (lookIn (a .b) (a .n) (a .e)) _ (a .b) j (a .k) (a .off) (a .s) _ (c .before .before .before .before .before .before .before .before .least .result) m (c .before .before .before .before .before .before .front .ensures) (c .before .before .enum-told .given .1) _ (c .before .beyond2 .ensures) (c .if1 .taken)
 
 add-look : tie.Need-add-look
 add-look c = search needs
 
 look-requires : tie.Need-look-requires
 look-requires c κs =
-    (filling-look (c .before .before .before .before .before .before .before .before .before .before .before .before .before .before .before .pre) (c .before .before .before .before .before .before .before .front .last .0) (c .before .before .before .before .before .before .before .front .kept .0), (tail-below (c .before .before .before .before .before .before .before .before .before .before .before .before .before .before .before .args .b) (jobOf (c .before .before .before .before .before .before .before .before .before .before .before .before .before .before .before .args .e) (c .before .before .before .before .before .before .before .before .before .before .before .before .before .before .before .args .pos) (c .before .before .before .before .before .before .before .before .before .before .before .before .before .before .before .args .«data» .now)) (c .before .before .before .before .before .before .before .before .before .before .before .before .before .before .before .args .off) (c .before .before .before .before .before .before .before .before .before .before .before .before .before .before .before .args .s) _ _ (share-is (c .before .before .before .before .before .before .before .before .before .before .before .before .before .before .before .args .b) (jobOf (c .before .before .before .before .before .before .before .before .before .before .before .before .before .before .before .args .e) (c .before .before .before .before .before .before .before .before .before .before .before .before .before .before .before .args .pos) (c .before .before .before .before .before .before .before .before .before .before .before .before .before .before .before .args .«data» .now)) (c .before .before .before .before .before .before .before .before .before .before .before .before .before .before .before .args .off) (c .before .before .before .before .before .before .before .before .before .before .before .before .before .before .before .args .s) _ (c .before .before .before .before .before .before .before .before .before .least .result) (c .before .before .before .before .before .before .before .before .before .before .before .beyond .ensures) (c .before .before .before .before .before .before .before .before .before .least .ensures)) (c .before .before .beyond2 .ensures) (c .before .if1 .left)))
+    let s = c .before .before .before .before .before .before .before .before .before .before .before .before .before .before .before in
+    let a = s .args in
+    let j = jobOf (a .e) (a .pos) (a .«data» .now) in
+    let m = share-is (a .b) j (a .off) (a .s) _ (c .before .before .before .before .before .before .before .before .before .least .result) (c .before .before .before .before .before .before .before .before .before .before .before .beyond .ensures) (c .before .before .before .before .before .before .before .before .before .least .ensures) in
+    (filling-look (s .pre) (c .before .before .before .before .before .before .before .front .last .0) (c .before .before .before .before .before .before .before .front .kept .0), (tail-below (a .b) j (a .off) (a .s) _ _ m (c .before .before .beyond2 .ensures) (c .before .if1 .left)))
 
 enum-known-old : tie.Need-enum-known-old
 enum-known-old c = search needs
@@ -80,10 +96,12 @@ sub-program-copy : tie.Need-sub-program-copy
 sub-program-copy c = search needs
 
 program-copy-requires : tie.Need-program-copy-requires
-program-copy-requires c κs = (
-  room-of _ _ _ (filling-link (c .before .before .before .before .before .before .before .before .before .before .before .before .before .before .before .before .before .before .before .before .pre) (c .before .before .before .before .before .before .before .before .before .before .before .before .front .last .0) (c .before .before .before .before .before .before .before .before .before .before .before .before .front .kept .0)) refl (tail-fits _ _ _ _ (share-fits (c .before .before .before .before .before .before .before .before .before .before .before .before .before .before .before .before .before .before .before .before .args .b) (jobOf (c .before .before .before .before .before .before .before .before .before .before .before .before .before .before .before .before .before .before .before .before .args .e) (c .before .before .before .before .before .before .before .before .before .before .before .before .before .before .before .before .before .before .before .before .args .pos) (c .before .before .before .before .before .before .before .before .before .before .before .before .before .before .before .before .before .before .before .before .args .«data» .now)) (c .before .before .before .before .before .before .before .before .before .before .before .before .before .before .before .before .before .before .before .before .args .off) (c .before .before .before .before .before .before .before .before .before .before .before .before .before .before .before .before .before .before .before .before .args .s) (c .before .before .before .before .before .before .before .before .before .before .before .before .before .before .least .result) (share-is (c .before .before .before .before .before .before .before .before .before .before .before .before .before .before .before .before .before .before .before .before .args .b) (jobOf (c .before .before .before .before .before .before .before .before .before .before .before .before .before .before .before .before .before .before .before .before .args .e) (c .before .before .before .before .before .before .before .before .before .before .before .before .before .before .before .before .before .before .before .before .args .pos) (c .before .before .before .before .before .before .before .before .before .before .before .before .before .before .before .before .before .before .before .before .args .«data» .now)) (c .before .before .before .before .before .before .before .before .before .before .before .before .before .before .before .before .before .before .before .before .args .off) (c .before .before .before .before .before .before .before .before .before .before .before .before .before .before .before .before .before .before .before .before .args .s) _ (c .before .before .before .before .before .before .before .before .before .before .before .before .before .before .least .result) (c .before .before .before .before .before .before .before .before .before .before .before .before .before .before .before .before .beyond .ensures) (c .before .before .before .before .before .before .before .before .before .before .before .before .before .before .least .ensures)) (c .before .before .before .before .before .before .before .before .before .before .before .before .before .before .before .before .before .before .before .before .pre .room)) (c .before .before .before .before .before .before .if1 .left)),
-  source-of _ _ _ (filling-link (c .before .before .before .before .before .before .before .before .before .before .before .before .before .before .before .before .before .before .before .before .pre) (c .before .before .before .before .before .before .before .before .before .before .before .before .front .last .0) (c .before .before .before .before .before .before .before .before .before .before .before .before .front .kept .0)) (look-below (c .before .before .before .before .before .before .before .before .before .before .before .before .front .last .0) _ _ (filling-look (c .before .before .before .before .before .before .before .before .before .before .before .before .before .before .before .before .before .before .before .before .pre) (c .before .before .before .before .before .before .before .before .before .before .before .before .front .last .0) (c .before .before .before .before .before .before .before .before .before .before .before .before .front .kept .0)) (tail-below (c .before .before .before .before .before .before .before .before .before .before .before .before .before .before .before .before .before .before .before .before .args .b) (jobOf (c .before .before .before .before .before .before .before .before .before .before .before .before .before .before .before .before .before .before .before .before .args .e) (c .before .before .before .before .before .before .before .before .before .before .before .before .before .before .before .before .before .before .before .before .args .pos) (c .before .before .before .before .before .before .before .before .before .before .before .before .before .before .before .before .before .before .before .before .args .«data» .now)) (c .before .before .before .before .before .before .before .before .before .before .before .before .before .before .before .before .before .before .before .before .args .off) (c .before .before .before .before .before .before .before .before .before .before .before .before .before .before .before .before .before .before .before .before .args .s) _ _ (share-is (c .before .before .before .before .before .before .before .before .before .before .before .before .before .before .before .before .before .before .before .before .args .b) (jobOf (c .before .before .before .before .before .before .before .before .before .before .before .before .before .before .before .before .before .before .before .before .args .e) (c .before .before .before .before .before .before .before .before .before .before .before .before .before .before .before .before .before .before .before .before .args .pos) (c .before .before .before .before .before .before .before .before .before .before .before .before .before .before .before .before .before .before .before .before .args .«data» .now)) (c .before .before .before .before .before .before .before .before .before .before .before .before .before .before .before .before .before .before .before .before .args .off) (c .before .before .before .before .before .before .before .before .before .before .before .before .before .before .before .before .before .before .before .before .args .s) _ (c .before .before .before .before .before .before .before .before .before .before .before .before .before .before .least .result) (c .before .before .before .before .before .before .before .before .before .before .before .before .before .before .before .before .beyond .ensures) (c .before .before .before .before .before .before .before .before .before .before .before .before .before .before .least .ensures)) (c .before .before .before .before .before .before .before .beyond2 .ensures) (c .before .before .before .before .before .before .if1 .left)) (told-block _ _ (sym (c .before .before .before .before .look .ensures) ∙ c .before .before .old .given .1))) (tail-fits _ _ _ _ (share-fits (c .before .before .before .before .before .before .before .before .before .before .before .before .before .before .before .before .before .before .before .before .args .b) (jobOf (c .before .before .before .before .before .before .before .before .before .before .before .before .before .before .before .before .before .before .before .before .args .e) (c .before .before .before .before .before .before .before .before .before .before .before .before .before .before .before .before .before .before .before .before .args .pos) (c .before .before .before .before .before .before .before .before .before .before .before .before .before .before .before .before .before .before .before .before .args .«data» .now)) (c .before .before .before .before .before .before .before .before .before .before .before .before .before .before .before .before .before .before .before .before .args .off) (c .before .before .before .before .before .before .before .before .before .before .before .before .before .before .before .before .before .before .before .before .args .s) (c .before .before .before .before .before .before .before .before .before .before .before .before .before .before .least .result) (share-is (c .before .before .before .before .before .before .before .before .before .before .before .before .before .before .before .before .before .before .before .before .args .b) (jobOf (c .before .before .before .before .before .before .before .before .before .before .before .before .before .before .before .before .before .before .before .before .args .e) (c .before .before .before .before .before .before .before .before .before .before .before .before .before .before .before .before .before .before .before .before .args .pos) (c .before .before .before .before .before .before .before .before .before .before .before .before .before .before .before .before .before .before .before .before .args .«data» .now)) (c .before .before .before .before .before .before .before .before .before .before .before .before .before .before .before .before .before .before .before .before .args .off) (c .before .before .before .before .before .before .before .before .before .before .before .before .before .before .before .before .before .before .before .before .args .s) _ (c .before .before .before .before .before .before .before .before .before .before .before .before .before .before .least .result) (c .before .before .before .before .before .before .before .before .before .before .before .before .before .before .before .before .beyond .ensures) (c .before .before .before .before .before .before .before .before .before .before .before .before .before .before .least .ensures)) (c .before .before .before .before .before .before .before .before .before .before .before .before .before .before .before .before .before .before .before .before .pre .room)) (c .before .before .before .before .before .before .if1 .left)),
-)
+program-copy-requires c κs =
+    let s = c .before .before .before .before .before .before .before .before .before .before .before .before .before .before .before .before .before .before .before .before in
+    let a = s .args in
+    let j = jobOf (a .e) (a .pos) (a .«data» .now) in
+    let m = share-is (a .b) j (a .off) (a .s) _ (c .before .before .before .before .before .before .before .before .before .before .before .before .before .before .least .result) (c .before .before .before .before .before .before .before .before .before .before .before .before .before .before .before .before .beyond .ensures) (c .before .before .before .before .before .before .before .before .before .before .before .before .before .before .least .ensures) in
+    (room-of _ _ _ (filling-link (s .pre) (c .before .before .before .before .before .before .before .before .before .before .before .before .front .last .0) (c .before .before .before .before .before .before .before .before .before .before .before .before .front .kept .0)) refl (tail-fits _ _ _ _ (share-fits (a .b) j (a .off) (a .s) (c .before .before .before .before .before .before .before .before .before .before .before .before .before .before .least .result) m (s .pre .room)) (c .before .before .before .before .before .before .if1 .left)), source-of _ _ _ (filling-link (s .pre) (c .before .before .before .before .before .before .before .before .before .before .before .before .front .last .0) (c .before .before .before .before .before .before .before .before .before .before .before .before .front .kept .0)) (look-below (c .before .before .before .before .before .before .before .before .before .before .before .before .front .last .0) _ _ (filling-look (s .pre) (c .before .before .before .before .before .before .before .before .before .before .before .before .front .last .0) (c .before .before .before .before .before .before .before .before .before .before .before .before .front .kept .0)) (tail-below (a .b) j (a .off) (a .s) _ _ m (c .before .before .before .before .before .before .before .beyond2 .ensures) (c .before .before .before .before .before .before .if1 .left)) (told-block _ _ (sym (c .before .before .before .before .look .ensures) ∙ c .before .before .old .given .1))) (tail-fits _ _ _ _ (share-fits (a .b) j (a .off) (a .s) (c .before .before .before .before .before .before .before .before .before .before .before .before .before .before .least .result) m (s .pre .room)) (c .before .before .before .before .before .before .if1 .left)))
 
 add-t31 : tie.Need-add-t31
 add-t31 c = search needs
@@ -96,14 +114,22 @@ same-length-3 c = search needs
 
 returns-3 : tie.Need-returns-3
 returns-3 c =
-    fill-tailed (lookIn (c .before .before .before .before .before .before .before .before .before .before .before .before .before .before .before .before .before .before .before .before .before .before .before .args .b) (c .before .before .before .before .before .before .before .before .before .before .before .before .before .before .before .before .before .before .before .before .before .before .before .args .n) (c .before .before .before .before .before .before .before .before .before .before .before .before .before .before .before .before .before .before .before .before .before .before .before .args .e)) _ (c .before .before .before .before .before .before .before .before .before .before .before .before .before .before .before .before .before .before .before .before .before .before .before .args .b) (jobOf (c .before .before .before .before .before .before .before .before .before .before .before .before .before .before .before .before .before .before .before .before .before .before .before .args .e) (c .before .before .before .before .before .before .before .before .before .before .before .before .before .before .before .before .before .before .before .before .before .before .before .args .pos) (c .before .before .before .before .before .before .before .before .before .before .before .before .before .before .before .before .before .before .before .before .before .before .before .args .«data» .now)) (c .before .before .before .before .before .before .before .before .before .before .before .before .before .before .before .before .before .before .before .before .before .before .before .args .k) (c .before .before .before .before .before .before .before .before .before .before .before .before .before .before .before .before .before .before .before .before .before .before .before .args .off) (c .before .before .before .before .before .before .before .before .before .before .before .before .before .before .before .before .before .before .before .before .before .before .before .args .s) _ (c .before .before .before .before .before .before .before .before .before .before .before .before .before .before .before .before .before .least .result) (share-is (c .before .before .before .before .before .before .before .before .before .before .before .before .before .before .before .before .before .before .before .before .before .before .before .args .b) (jobOf (c .before .before .before .before .before .before .before .before .before .before .before .before .before .before .before .before .before .before .before .before .before .before .before .args .e) (c .before .before .before .before .before .before .before .before .before .before .before .before .before .before .before .before .before .before .before .before .before .before .before .args .pos) (c .before .before .before .before .before .before .before .before .before .before .before .before .before .before .before .before .before .before .before .before .before .before .before .args .«data» .now)) (c .before .before .before .before .before .before .before .before .before .before .before .before .before .before .before .before .before .before .before .before .before .before .before .args .off) (c .before .before .before .before .before .before .before .before .before .before .before .before .before .before .before .before .before .before .before .before .before .before .before .args .s) _ (c .before .before .before .before .before .before .before .before .before .before .before .before .before .before .before .before .before .least .result) (c .before .before .before .before .before .before .before .before .before .before .before .before .before .before .before .before .before .before .before .beyond .ensures) (c .before .before .before .before .before .before .before .before .before .before .before .before .before .before .before .before .before .least .ensures)) (c .before .before .before .before .before .before .before .before .before .before .before .before .before .before .before .front .ensures) (c .before .before .before .before .before .before .before .before .before .before .before .enum-told .given .1) _ (c .before .before .before .before .before .before .before .before .before .before .beyond2 .ensures) (c .before .before .before .before .before .before .before .before .before .if1 .left) _ (told-block _ _ (sym (c .before .before .before .before .before .before .before .look .ensures) ∙ c .before .before .before .before .before .old .given .1)) (c .before .before .program-copy .ensures)
+    let s = c .before .before .before .before .before .before .before .before .before .before .before .before .before .before .before .before .before .before .before .before .before .before .before in
+    let a = s .args in
+    let j = jobOf (a .e) (a .pos) (a .«data» .now) in
+    let m = share-is (a .b) j (a .off) (a .s) _ (c .before .before .before .before .before .before .before .before .before .before .before .before .before .before .before .before .before .least .result) (c .before .before .before .before .before .before .before .before .before .before .before .before .before .before .before .before .before .before .before .beyond .ensures) (c .before .before .before .before .before .before .before .before .before .before .before .before .before .before .before .before .before .least .ensures) in
+    fill-tailed (lookIn (a .b) (a .n) (a .e)) _ (a .b) j (a .k) (a .off) (a .s) _ (c .before .before .before .before .before .before .before .before .before .before .before .before .before .before .before .before .before .least .result) m (c .before .before .before .before .before .before .before .before .before .before .before .before .before .before .before .front .ensures) (c .before .before .before .before .before .before .before .before .before .before .before .enum-told .given .1) _ (c .before .before .before .before .before .before .before .before .before .before .beyond2 .ensures) (c .before .before .before .before .before .before .before .before .before .if1 .left) _ (told-block _ _ (sym (c .before .before .before .before .before .before .before .look .ensures) ∙ c .before .before .before .before .before .old .given .1)) (c .before .before .program-copy .ensures)
 
 same-length-4 : tie.Need-same-length-4
 same-length-4 c = search needs
 
 returns-4 : tie.Need-returns-4
 returns-4 c =
-    fill-lost (lookIn (c .before .before .before .before .before .before .before .before .before .before .before .before .before .before .before .before .before .before .args .b) (c .before .before .before .before .before .before .before .before .before .before .before .before .before .before .before .before .before .before .args .n) (c .before .before .before .before .before .before .before .before .before .before .before .before .before .before .before .before .before .before .args .e)) _ (c .before .before .before .before .before .before .before .before .before .before .before .before .before .before .before .before .before .before .args .b) (jobOf (c .before .before .before .before .before .before .before .before .before .before .before .before .before .before .before .before .before .before .args .e) (c .before .before .before .before .before .before .before .before .before .before .before .before .before .before .before .before .before .before .args .pos) (c .before .before .before .before .before .before .before .before .before .before .before .before .before .before .before .before .before .before .args .«data» .now)) (c .before .before .before .before .before .before .before .before .before .before .before .before .before .before .before .before .before .before .args .k) (c .before .before .before .before .before .before .before .before .before .before .before .before .before .before .before .before .before .before .args .off) (c .before .before .before .before .before .before .before .before .before .before .before .before .before .before .before .before .before .before .args .s) _ (c .before .before .before .before .before .before .before .before .before .before .before .before .least .result) (share-is (c .before .before .before .before .before .before .before .before .before .before .before .before .before .before .before .before .before .before .args .b) (jobOf (c .before .before .before .before .before .before .before .before .before .before .before .before .before .before .before .before .before .before .args .e) (c .before .before .before .before .before .before .before .before .before .before .before .before .before .before .before .before .before .before .args .pos) (c .before .before .before .before .before .before .before .before .before .before .before .before .before .before .before .before .before .before .args .«data» .now)) (c .before .before .before .before .before .before .before .before .before .before .before .before .before .before .before .before .before .before .args .off) (c .before .before .before .before .before .before .before .before .before .before .before .before .before .before .before .before .before .before .args .s) _ (c .before .before .before .before .before .before .before .before .before .before .before .before .least .result) (c .before .before .before .before .before .before .before .before .before .before .before .before .before .before .beyond .ensures) (c .before .before .before .before .before .before .before .before .before .before .before .before .least .ensures)) (c .before .before .before .before .before .before .before .before .before .before .front .ensures) (c .before .before .before .before .before .before .enum-told .given .1) _ (c .before .before .before .before .before .beyond2 .ensures) (c .before .before .before .before .if1 .left) (told-lost _ (sym (c .before .before .look .ensures) ∙ c .enum-told3 .given .1))
+    let s = c .before .before .before .before .before .before .before .before .before .before .before .before .before .before .before .before .before .before in
+    let a = s .args in
+    let j = jobOf (a .e) (a .pos) (a .«data» .now) in
+    let m = share-is (a .b) j (a .off) (a .s) _ (c .before .before .before .before .before .before .before .before .before .before .before .before .least .result) (c .before .before .before .before .before .before .before .before .before .before .before .before .before .before .beyond .ensures) (c .before .before .before .before .before .before .before .before .before .before .before .before .least .ensures) in
+    fill-lost (lookIn (a .b) (a .n) (a .e)) _ (a .b) j (a .k) (a .off) (a .s) _ (c .before .before .before .before .before .before .before .before .before .before .before .before .least .result) m (c .before .before .before .before .before .before .before .before .before .before .front .ensures) (c .before .before .before .before .before .before .enum-told .given .1) _ (c .before .before .before .before .before .beyond2 .ensures) (c .before .before .before .before .if1 .left) (told-lost _ (sym (c .before .before .look .ensures) ∙ c .enum-told3 .given .1))
 
 pub fill-block-spec : {M : Type 1} → statement M
 fill-block-spec =

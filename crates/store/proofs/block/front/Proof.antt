@@ -48,7 +48,8 @@ least-requires-3 c κs = search needs
 
 add-program : tie.Need-add-program
 add-program c =
-    record { fits = lt-of-le-of-lt (gap-fits _ _ _ _ _ (c .before .before .before .before .before .before .before .before .before .before .before .before .before .before .before .pre .0 .room) (c .before .before .before .before .before .before .before .before .before .before .least .ensures)) (c .before .before .before .before .before .before .before .before .before .before .before .before .before .before .before .fits .b .fits) }
+    let s = c .before .before .before .before .before .before .before .before .before .before .before .before .before .before .before in
+    record { fits = lt-of-le-of-lt (gap-fits _ _ _ _ _ (s .pre .0 .room) (c .before .before .before .before .before .before .before .before .before .before .least .ensures)) (s .fits .b .fits) }
 
 cast-program : tie.Need-cast-program
 cast-program c = search needs
@@ -57,14 +58,9 @@ cast-program-2 : tie.Need-cast-program-2
 cast-program-2 c = search needs
 
 program-requires : tie.Need-program-requires
-program-requires c κs = (
-  record {
-    inside = omega (arith, c .before .before .before .before .before .before .before .before .program-zeros .kept .0, c .before .before .before .before .before .before .before .before .before .before .before .before .before .before .before .pre .0 .inside);
-    known = c .before .before .before .before .before .before .before .before .before .before .before .before .before .before .before .pre .0 .known;
-    room = omega (arith, c .before .before .before .before .before .before .before .before .before .before .least .ensures, c .before .least3 .ensures, c .before .before .before .before .before .before .before .before .before .before .before .before .before .before .before .pre .0 .room);
-  },
-  omega (arith, c .before .before .least2 .ensures, c .before .least3 .ensures),
-)
+program-requires c κs =
+    let s = c .before .before .before .before .before .before .before .before .before .before .before .before .before .before .before in
+    (record { inside = omega (arith, c .before .before .before .before .before .before .before .before .program-zeros .kept .0, s .pre .0 .inside); known = s .pre .0 .known; room = omega (arith, c .before .before .before .before .before .before .before .before .before .before .least .ensures, c .before .least3 .ensures, s .pre .0 .room) }, omega (arith, c .before .before .least2 .ensures, c .before .least3 .ensures))
 
 same-length-2 : tie.Need-same-length-2
 same-length-2 c = search needs

@@ -26,7 +26,8 @@ add-tail-looked c = search needs
 
 tail-looked-requires : tie.Need-tail-looked-requires
 tail-looked-requires c κs =
-    (putting-look (c .before .before .before .before .before .before .before .before .before .before .before .pre), c .before .before .before .before .before .before .before .before .before .before .before .pre .fits)
+    let s = c .before .before .before .before .before .before .before .before .before .before .before in
+    (putting-look (s .pre), s .pre .fits)
 
 write-on-requires : tie.Need-write-on-requires
 write-on-requires c κs =

@@ -33,38 +33,47 @@ enum-told-2 c = search needs
 
 returns : tie.Need-returns Inv-loop μ-loop
 returns c =
-    tail-lost (lookIn (c .before .before .before .before .before .before .args .b) (c .before .before .before .before .before .before .args .n) (c .before .before .before .before .before .before .args .e)) (c .before .before .before .before .before .before .args .image .now) (c .before .before .before .before .before .before .args .b) _ (c .before .before .before .before .loop .p) (served (c .before .before .before .before .before .before .pre .0 .card .sized) (omega (arith, c .before .before .before .loop-test .taken, c .before .before .before .before .before .before .pre .0 .most))) (λ r. look-same (c .before .before .before .before .before .before .args .b) (c .before .before .before .before .before .before .args .n) (c .before .before .before .before .before .before .args .e) (c .before .before .before .before .before .before .args .image .now) r (c .before .before .before .before .loop .p)) (c .before .before .before .loop-test .taken) (told-lost _ (sym (c .before .before .look .ensures) ∙ c .enum-told2 .given .1))
-    ∙ sym (c .before .before .before .before .loop .inv)
+    let s = c .before .before .before .before .before .before in
+    let a = s .args in
+    tail-lost (lookIn (a .b) (a .n) (a .e)) (a .image .now) (a .b) _ (c .before .before .before .before .loop .p) (served (s .pre .0 .card .sized) (omega (arith, c .before .before .before .loop-test .taken, s .pre .0 .most))) (λ r. look-same (a .b) (a .n) (a .e) (a .image .now) r (c .before .before .before .before .loop .p)) (c .before .before .before .loop-test .taken) (told-lost _ (sym (c .before .before .look .ensures) ∙ c .enum-told2 .given .1)) ∙ sym (c .before .before .before .before .loop .inv)
 
 index-at-requires : tie.Need-index-at-requires Inv-loop μ-loop
 index-at-requires c κs =
-    served (c .before .before .before .before .before .before .pre .0 .card .sized) (omega (arith, c .before .before .before .loop-test .taken, c .before .before .before .before .before .before .pre .0 .most))
+    let s = c .before .before .before .before .before .before in
+    served (s .pre .0 .card .sized) (omega (arith, c .before .before .before .loop-test .taken, s .pre .0 .most))
 
 offset-at-requires : tie.Need-offset-at-requires Inv-loop μ-loop
 offset-at-requires c κs =
-    record { served = served (c .before .before .before .before .before .before .before .pre .0 .card .sized) (omega (arith, c .before .before .before .before .loop-test .taken, c .before .before .before .before .before .before .before .pre .0 .most)); index = c .index-at .ensures }
+    let s = c .before .before .before .before .before .before .before in
+    record { served = served (s .pre .0 .card .sized) (omega (arith, c .before .before .before .before .loop-test .taken, s .pre .0 .most)); index = c .index-at .ensures }
 
 sub-p : tie.Need-sub-p Inv-loop μ-loop
 sub-p c =
-    omega (arith, c .offset-at .ensures, offset-inside (c .before .before .before .before .before .before .before .before .args .b) (c .before .before .before .before .before .before .loop .p) (index-in (served (c .before .before .before .before .before .before .before .before .pre .0 .card .sized) (omega (arith, c .before .before .before .before .before .loop-test .taken, c .before .before .before .before .before .before .before .before .pre .0 .most)))))
+    let s = c .before .before .before .before .before .before .before .before in
+    omega (arith, c .offset-at .ensures, offset-inside (s .args .b) (c .before .before .before .before .before .before .loop .p) (index-in (served (s .pre .0 .card .sized) (omega (arith, c .before .before .before .before .before .loop-test .taken, s .pre .0 .most)))))
 
 add-p : tie.Need-add-p Inv-loop μ-loop
 add-p c =
-    omega (arith, c .offset-at .ensures, c .before .before .before .before .before .loop-test .taken, c .before .before .before .before .before .before .before .before .pre .0 .most, c .before .before .before .before .before .before .before .before .pre .0 .card .high)
+    let s = c .before .before .before .before .before .before .before .before in
+    omega (arith, c .offset-at .ensures, c .before .before .before .before .before .loop-test .taken, s .pre .0 .most, s .pre .0 .card .high)
 
 loop-less : tie.Need-loop-less Inv-loop μ-loop
 loop-less c =
-    omega (arith, c .before .before .before .before .before .loop-test .taken, c .offset-at .ensures, offset-inside (c .before .before .before .before .before .before .before .before .args .b) (c .before .before .before .before .before .before .loop .p) (index-in (served (c .before .before .before .before .before .before .before .before .pre .0 .card .sized) (omega (arith, c .before .before .before .before .before .loop-test .taken, c .before .before .before .before .before .before .before .before .pre .0 .most)))))
+    let s = c .before .before .before .before .before .before .before .before in
+    omega (arith, c .before .before .before .before .before .loop-test .taken, c .offset-at .ensures, offset-inside (s .args .b) (c .before .before .before .before .before .before .loop .p) (index-in (served (s .pre .0 .card .sized) (omega (arith, c .before .before .before .before .before .loop-test .taken, s .pre .0 .most)))))
 
 loop-again : tie.Need-loop-again Inv-loop μ-loop
 loop-again c =
-    c .before .before .before .before .before .before .loop .inv
-    ∙ tail-turn (lookIn (c .before .before .before .before .before .before .before .before .args .b) (c .before .before .before .before .before .before .before .before .args .n) (c .before .before .before .before .before .before .before .before .args .e)) (c .before .before .before .before .before .before .before .before .args .image .now) (c .before .before .before .before .before .before .before .before .args .b) _ (c .before .before .before .before .before .before .loop .p) (served (c .before .before .before .before .before .before .before .before .pre .0 .card .sized) (omega (arith, c .before .before .before .before .before .loop-test .taken, c .before .before .before .before .before .before .before .before .pre .0 .most))) (λ r. look-same (c .before .before .before .before .before .before .before .before .args .b) (c .before .before .before .before .before .before .before .before .args .n) (c .before .before .before .before .before .before .before .before .args .e) (c .before .before .before .before .before .before .before .before .args .image .now) r (c .before .before .before .before .before .before .loop .p)) (c .before .before .before .before .before .loop-test .taken) _ _ (told-block _ _ (sym (c .before .before .before .before .look .ensures) ∙ c .before .before .enum-told .given .1))
-    (ap (λ (o : ℕ). c .before .before .before .before .before .before .loop .p + (c .before .before .before .before .before .before .before .before .args .b - o)) (c .offset-at .ensures)) (omega (arith, c .before .before .before .before .before .loop-test .taken, c .before .before .before .before .before .before .before .before .pre .0 .most, c .before .before .before .before .before .before .before .before .pre .0 .card .high))
+    let s = c .before .before .before .before .before .before .before .before in
+    let a = s .args in
+    c .before .before .before .before .before .before .loop .inv ∙ tail-turn (lookIn (a .b) (a .n) (a .e)) (a .image .now) (a .b) _ (c .before .before .before .before .before .before .loop .p) (served (s .pre .0 .card .sized) (omega (arith, c .before .before .before .before .before .loop-test .taken, s .pre .0 .most))) (λ r. look-same (a .b) (a .n) (a .e) (a .image .now) r (c .before .before .before .before .before .before .loop .p)) (c .before .before .before .before .before .loop-test .taken) _ _ (told-block _ _ (sym (c .before .before .before .before .look .ensures) ∙ c .before .before .enum-told .given .1)) (ap (λ (o : ℕ). c .before .before .before .before .before .before .loop .p + (a .b - o)) (c .offset-at .ensures)) (omega (arith, c .before .before .before .before .before .loop-test .taken, s .pre .0 .most, s .pre .0 .card .high))
 
 returns-2 : tie.Need-returns-2 Inv-loop μ-loop
 returns-2 c =
-    tail-end (lookIn (c .before .before .before .args .b) (c .before .before .before .args .n) (c .before .before .before .args .e)) (c .before .before .before .args .image .now) (c .before .before .before .args .b) _ (c .before .loop .p) (c .loop-test .left) ∙ sym (c .before .loop .inv)
+    let s = c .before .before .before in
+    let a = s .args in
+    let l = c .before .loop in
+    tail-end (lookIn (a .b) (a .n) (a .e)) (a .image .now) (a .b) _ (l .p) (c .loop-test .left) ∙ sym (l .inv)
 
 pub tail-looked-spec : {M : Type 1} → statement M
 tail-looked-spec =
