@@ -40,8 +40,7 @@ use Rattle.store.specs.Write.{Writing, WriteOut, Written, NoRoom, Corrupt, zero
 use Rattle.store.specs.Store.{jobOf, lookIn, puts, storeTested, written, writtenOf}
 use Rattle.writes.specs.Allocator.{Stays}
 use Rattle.writes.specs.Plain.{need}
-use Rattle.writes.proofs.Loops.{some-need}
-use Rattle.writes.proofs.Counting.{Counted, corrupt, done, counted, first-bad}
+use Rattle.writes.proofs.Counting.{some-need, Counted, corrupt, done, counted, first-bad}
 use Rattle.writes.proofs.Counting.{full as no-room}
 use Rattle.demands.specs.Calls.{State, write, truncate, storedIn, after}
 use Rattle.demands.specs.Space.{goodBlock, blocksFor, goodFree, Exactly}

@@ -12,9 +12,9 @@ use Rattle.files.specs.declared.Table.{Table}
 use Rattle.files.specs.Table.{held, tableOf, filesOk}
 use Rattle.window.specs.Value.{freshOf}
 use Rattle.demands.specs.Calls.{State, Call, Left, after}
-use Rattle.demands.specs.Came.{Among, here, there, Sounds, Came, fresh}
+use Rattle.demands.specs.Came.{Among, here, there, Sounds, Came, fresh, called}
 use Rattle.demands.specs.Plain.{PlainFile, plainCode, grows}
-use Rattle.demands.specs.Runs.{filesIn, Step, Run, onto, runs, answered, isShort, plainRuns, told}
+use Rattle.demands.specs.Runs.{filesIn, Step, Run, onto, runs, ran, answered, isShort, plainRuns, told}
 use Rattle.demands.proofs.Entries.{made-ok}
 use Rattle.demands.proofs.Contents.{Plainly, same-files}
 use Rattle.demands.proofs.Kept.{Held}
@@ -61,3 +61,11 @@ no-files B N start image g =
 -- The same from any window that came from store calls.
 pub run-on : {B N l : ℕ} {s : State} → Came B N l s → Sounds B N s → (cs : List Step) → runs B N l cs s ≡ plainRuns (told B N l cs s) (filesIn B s)
 run-on came so cs = held-runs (came-held came so) cs
+
+-- All lists stay sound on the way, and the window came from store calls at the end.
+pub run-sound : {B N l : ℕ} {s : State} → Came B N l s → Sounds B N s → (cs : List Step) → Came B N l (ran B N l cs s) × Sounds B N (ran B N l cs s)
+unfolding ran
+run-sound came so [] = (came, so)
+run-sound came so (c ∷ cs) =
+    let h = came-held came so in
+    run-sound (called (c .health) (c .call) came so) (ends-held h (step h (c .health) (c .call)) .sounds) cs

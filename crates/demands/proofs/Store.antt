@@ -176,7 +176,7 @@ module _ (B N l : ℕ) (health : List ℕ) (t : Table) (w : Lookahead) (img : Li
       (λ img′ c st. told-here img′ (told-anew B N img img′ (long img′ c) (bf .sounds) st)))
       (jobOf e pos src) (checkpointOf w N) img given)
     where
-      go : writes.Outcome B N (jobOf e pos src) (Listed listed) Ok (ExactFor N listed) (goodsLeft health N listed (start-call .base)) (checkpointOf w N) img o
+      go : writes.Outcome B N (jobOf e pos src) (Listed listed) Ok img o
           → Outcome B N l (held t) e pos src img o
-      go (writes.written h out ac x) = written h out (stored h out ac)
-      go (writes.refused out r x) = refused out (unstored out r)
+      go (writes.written h out ac) = written h out (stored h out ac)
+      go (writes.refused out r) = refused out (unstored out r)

@@ -38,6 +38,11 @@ runs B N l [] s = record { codes = []; files = filesIn B s }
 runs B N l (c ∷ cs) s =
     onto (after B N l (c .health) (c .call) s .code) (runs B N l cs (after B N l (c .health) (c .call) s .state))
 
+-- the state that they leave
+unfoldable pub ran : ℕ → ℕ → ℕ → List Step → State → State
+ran B N l [] s = s
+ran B N l (c ∷ cs) s = ran B N l cs (after B N l (c .health) (c .call) s .state)
+
 -- a refused call changes nothing; so does one that asks for blocks where they are short (-28)
 abbrev pub answered : ℤ → Bool → Call → List PlainFile → (ℤ → List PlainFile → Run) → Run
 answered (negsuc k) short c fs go = go (negsuc k) fs

@@ -113,18 +113,18 @@ module _ (B N : ℕ) (image : List ℕ) (w : Lookahead) (t : Table) (i size : �
     shrinks-refused e = rw (shrinks, ne-eqb size 0 z, ← g, e)
 
   -- card and window stay as they were
-  pub shrinks-image : shrinks B N image w t i size .image ≡ image
+  pub shrinks-keeps : (shrinks B N image w t i size .image ≡ image) × (shrinks B N image w t i size .stored .window ≡ w)
   unfolding shrinks
-  shrinks-image = go (eqb size 0) (walkTo image B N (file t i .head) (file t i .size) (size - 1))
+  shrinks-keeps = go (eqb size 0) (walkTo image B N (file t i .head) (file t i .size) (size - 1))
     where
       pick : Bool → Found → StoreOut
       pick b x = elim b [ true ↦ left outcome.Done w (putOf t i 0 nullBlock) image | false ↦ shrunk t i size w image x ]
 
-      go : (b : Bool) (x : Found) → pick b x .image ≡ image
-      go true x = refl
-      go false (found.At k off hops) = refl
-      go false found.Damaged = refl
-      go false found.Refused = refl
+      go : (b : Bool) (x : Found) → (pick b x .image ≡ image) × (pick b x .stored .window ≡ w)
+      go true x = (refl, refl)
+      go false (found.At k off hops) = (refl, refl)
+      go false found.Damaged = (refl, refl)
+      go false found.Refused = (refl, refl)
 
 module _ (B N l : ℕ) (image health : List ℕ) (w : Lookahead) (t : Table) (number size : ℕ) where
   pub truncate-untested : testedOf B N l (length image) health w ≡ false → storeTruncate B N l image health w t number size ≡ left outcome.Refused w t image

@@ -5,7 +5,6 @@ use super::old::Looked;
 use super::old::look;
 use device::Programmed;
 use files::Entry;
-ghost use mathlib.Core.Path.{_≡_};
 ghost use Prim.Native.Nat.{_≤_};
 ghost use lib.ListN.{length};
 ghost use Rattle.device.specs.Device.{ProgramGives};

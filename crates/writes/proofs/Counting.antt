@@ -5,10 +5,10 @@ use mathlib.Core.Bool.{Bool, true, false}
 use mathlib.Core.List.{List, []}
 use Prim.Native.Nat.{ℕ, zero, suc, _+_, _-_, _^_, _≤_, _<_}
 use native.Mathlib.Omega.{arith}
-use borrow.Author.Tests.{ltb-true, ltb-false, lt-ltb}
+use borrow.Author.Tests.{ltb-true, ltb-false, lt-ltb, le-ltb}
 use lib.Dec.{ltb}
 use lib.ListN.{length}
-use Rattle.layout.specs.Layout.{offsetAt}
+use Rattle.layout.specs.Layout.{indexAt, offsetAt}
 use Rattle.card.specs.Card.{Card}
 use Rattle.device.specs.Device.{refusesProgram}
 use Rattle.grow.specs.Supply.{Took, Bad}
@@ -17,9 +17,17 @@ use Rattle.store.specs.Write.{Job, new, kept, over, Written, NoRoom, Corrupt, W
 use Rattle.writes.specs.Allocator.{Allocator}
 use Rattle.writes.specs.Plain.{need}
 use Rattle.writes.proofs.Fills.{front-card, front-others}
-use Rattle.writes.proofs.Loops.{no-need, some-need}
 use Rattle.writes.proofs.Widths.{share, room, needs}
 use Rattle.writes.proofs.Counts.{Only, part-short, store-only, both, Grew, hurt, none, gets, grew}
+
+no-need : (B : ℕ) (j : Job) (s : ℕ) → new j ≤ s → need B j s ≡ 0
+unfolding need
+no-need B j s h = rw (need, le-ltb s (new j) h)
+
+-- the blocks that are needed while bytes are left to write
+pub some-need : (B : ℕ) (j : Job) (s : ℕ) → s < new j → need B j s ≡ indexAt B (new j - 1) - indexAt B s + 1
+unfolding need
+some-need B j s h = rw (need, lt-ltb s (new j) h)
 
 -- the tail goes into block k alone
 tail-only : (B N k off s n ob e : ℕ) (img : List ℕ) → Card B N (length img) → off + n ≤ B → e - s < n → Only B N k img (tailed B k off s n ob e img)

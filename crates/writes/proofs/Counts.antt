@@ -1,7 +1,7 @@
 -- How many blocks a growth and a write take on any list, sound or not: only blocks that the allocator hands out are touched, so its laws hold throughout. Assumes nothing.
 use mathlib.Core.Path.{_≡_, refl, sym, ap, _∙_}
 use mathlib.Core.Logic.{_≢_, _⊎_, inl, inr}
-use mathlib.Core.Bool.{Bool, true, false}
+use mathlib.Core.Bool.{Bool, true, false, and-eq-true-iff}
 use mathlib.Core.List.{List, _∷_}
 use Prim.Native.Nat.{ℕ, zero, suc, _+_, _*_, _^_, _≤_, _<_}
 use native.Mathlib.Nat.{add-suc, suc-add, zero-add}
@@ -24,7 +24,7 @@ use Rattle.writes.specs.Cells.{cell}
 use Rattle.writes.specs.Allocator.{Taken, Allocator}
 use Rattle.writes.proofs.Cells.{stored-card, stored-other}
 use Rattle.writes.proofs.Index.{in-block, roomy}
-use Rattle.writes.proofs.Grows.{wiped-card, wiped-other, spoilt-two}
+use Rattle.writes.proofs.Grows.{wiped-card, wiped-other}
 use Rattle.writes.proofs.Links.{at-zero}
 
 -- only block k of the card changes
@@ -98,6 +98,11 @@ module _ {W : Type 0} (B N : ℕ) (ks : W) (k : ℕ) where
           rw (linkOf, e, eq-eqb (suc (offsetAt B p)) B (w .full), w .offset) t
 
 -- ---- over an allocator
+
+-- a block that spoils a growth refuses its first program
+spoilt-two : (health : List ℕ) (N k head s : ℕ) → spoils health N k head s ≡ true → refusesProgram health k ≡ true
+unfolding spoils
+spoilt-two health N k head s q = and-eq-true-iff _ _ .0 (and-eq-true-iff _ _ .0 q .0) .0
 
 module _ {W : Type 0} (B N : ℕ) (health : List ℕ) (tries : W → ℕ) (alloc : W → List ℕ → Took W)
     (L : ℕ → Type 0) (Ok : W → List ℕ → List ℕ → Type 0) (Exact : W → Type 0) (goods : W → ℕ)

@@ -1,14 +1,14 @@
 -- One growth over any allocator: what it leaves, and that on a sound list it is never damaged. Assumes nothing.
 use mathlib.Core.Path.{_≡_, refl, _∙_}
 use mathlib.Core.Logic.{_≢_, _⊎_, inl, inr}
-use mathlib.Core.Bool.{Bool, true, false, and-eq-true-iff}
+use mathlib.Core.Bool.{Bool, true, false}
 use mathlib.Core.List.{List, _∷_}
 use Prim.Native.Nat.{ℕ, zero, suc, _-_, _<_}
 use native.Mathlib.Omega.{arith}
 use lib.ListN.{length, replicate, length-replicate}
 use Rattle.layout.specs.Layout.{start, indexAt, offsetAt}
 use Rattle.card.specs.Card.{Card}
-use Rattle.device.specs.Device.{wiped, refusesErase, refusesProgram}
+use Rattle.device.specs.Device.{wiped, refusesErase}
 use Rattle.grow.specs.declared.Growth.the-variants.{Grown, Full}
 use Rattle.grow.specs.Supply.{Took, Block, None, Bad}
 use Rattle.grow.specs.Grow.{GrowOut, growOf, spoils}
@@ -31,15 +31,11 @@ module _ (B k : ℕ) (img : List ℕ) where
   unfolding wiped
   wiped-other = stored-other B k 0 (replicate B 255) img (omega (arith, length-replicate {A = ℕ} B 255))
 
-pub spoilt-two : (health : List ℕ) (N k head s : ℕ) → spoils health N k head s ≡ true → refusesProgram health k ≡ true
-unfolding spoils
-spoilt-two health N k head s q = and-eq-true-iff _ _ .0 (and-eq-true-iff _ _ .0 q .0) .0
-
 module _ {W : Type 0} (B N : ℕ) (health : List ℕ) (tries : W → ℕ) (alloc : W → List ℕ → Took W)
     (L : ℕ → Type 0) (Ok : W → List ℕ → List ℕ → Type 0) (Exact : W → Type 0) (goods : W → ℕ)
     (al : Allocator B N health tries alloc L Ok Exact goods) where
   -- a block was grown: k, which was not known; mid is the image after the erases
-  pub record Got (w : W) (out img : List ℕ) (f : ℕ → ℕ) (s : ℕ) (o : GrowOut W) (out′ : List ℕ) (k : ℕ) : Type 0 where
+  pub record Got (out img : List ℕ) (f : ℕ → ℕ) (s : ℕ) (o : GrowOut W) (out′ : List ℕ) (k : ℕ) : Type 0 where
     pub answer : o .answer ≡ Grown k (offsetAt B s)
     pub low : k < N
     pub fresh : In k out′
@@ -47,26 +43,21 @@ module _ {W : Type 0} (B N : ℕ) (health : List ℕ) (tries : W → ℕ) (alloc
     pub mid : List ℕ
     pub before : Stays B (Known L out) img mid
     pub made : Made B mid (o .image) f k (indexAt B s) s
-    pub fewer : tries (o .rest) < tries w
-    pub exact : Exact w → Exact (o .rest)
-    pub good : Exact w → refusesProgram health k ≡ false → goods w ≡ suc (goods (o .rest))
-    pub spoilt : Exact w → refusesProgram health k ≡ true → goods w ≡ goods (o .rest)
 
   -- what a growth leaves, made or not; on a sound list it is never damaged
-  pub record Growing (m : ℕ) (w : W) (out img : List ℕ) (f : ℕ → ℕ) (s : ℕ) (o : GrowOut W) : Type 0 where
+  pub record Growing (out img : List ℕ) (f : ℕ → ℕ) (s : ℕ) (o : GrowOut W) : Type 0 where
     pub out′ : List ℕ
     pub card : Card B N (length (o .image))
     pub stays : Stays B (Known L out) img (o .image)
     pub ok : Ok (o .rest) out′ (o .image)
     pub less : (k : ℕ) → In k out → In k out′
-    pub end : ((o .answer ≡ Full) × (Exact w → tries w < m → goods w ≡ 0)) ⊎ ((k : ℕ) × Got w out img f s o out′ k)
+    pub end : (o .answer ≡ Full) ⊎ ((k : ℕ) × Got out img f s o out′ k)
 
   module _ (f : ℕ → ℕ) (head s : ℕ) where
     -- a block that was passed
-    later : (m k : ℕ) (w w′ : W) (out img img₁ : List ℕ) (o : GrowOut W) → Taken N health tries L Ok Exact goods w w′ out img k
-        → (Exact w → goods w ≡ goods w′) → ((k′ o′ : ℕ) → k ≢ k′ → o′ < B → cell B img₁ k′ o′ ≡ cell B img k′ o′)
-        → Growing m w′ (k ∷ out) img₁ f s o → Growing (suc m) w out img f s o
-    later m k w w′ out img img₁ o t ge e g = record {
+    later : (k : ℕ) (w w′ : W) (out img img₁ : List ℕ) (o : GrowOut W) → Taken N health tries L Ok Exact goods w w′ out img k
+        → ((k′ o′ : ℕ) → k ≢ k′ → o′ < B → cell B img₁ k′ o′ ≡ cell B img k′ o′) → Growing (k ∷ out) img₁ f s o → Growing out img f s o
+    later k w w′ out img img₁ o t e g = record {
       out′ = g .out′;
       card = g .card;
       stays = λ k′ o′ u l. g .stays k′ o′ (known u) l ∙ e k′ o′ (t .new k′ u) l;
@@ -79,9 +70,8 @@ module _ {W : Type 0} (B N : ℕ) (health : List ℕ) (tries : W → ℕ) (alloc
         known (inl a) = inl a
         known (inr a) = inr (inr a)
 
-        go : ((o .answer ≡ Full) × (Exact w′ → tries w′ < m → goods w′ ≡ 0)) ⊎ ((k′ : ℕ) × Got w′ (k ∷ out) img₁ f s o (g .out′) k′)
-            → ((o .answer ≡ Full) × (Exact w → tries w < suc m → goods w ≡ 0)) ⊎ ((k′ : ℕ) × Got w out img f s o (g .out′) k′)
-        go (inl a) = inl (a .0, λ x l. ge x ∙ a .1 (t .exact x) (omega (arith, t .fewer)))
+        go : (o .answer ≡ Full) ⊎ ((k′ : ℕ) × Got (k ∷ out) img₁ f s o (g .out′) k′) → (o .answer ≡ Full) ⊎ ((k′ : ℕ) × Got out img f s o (g .out′) k′)
+        go (inl a) = inl a
         go (inr q) =
             let v = q .1 in
             inr (
@@ -94,18 +84,13 @@ module _ {W : Type 0} (B N : ℕ) (health : List ℕ) (tries : W → ℕ) (alloc
                 mid = v .mid;
                 before = λ k′ o′ u l. v .before k′ o′ (known u) l ∙ e k′ o′ (t .new k′ u) l;
                 made = v .made;
-                fewer = omega (arith, v .fewer, t .fewer);
-                exact = λ x. v .exact (t .exact x);
-                good = λ x y. ge x ∙ v .good (t .exact x) y;
-                spoilt = λ x y. ge x ∙ v .spoilt (t .exact x) y;
               },
             )
 
     -- the block that was taken
-    taken-one : (m k : ℕ) (w w′ : W) (out img img₁ : List ℕ) (o : GrowOut W) → Taken N health tries L Ok Exact goods w w′ out img k → refusesErase health k ≡ false
-        → ((k′ o′ : ℕ) → k ≢ k′ → o′ < B → cell B img₁ k′ o′ ≡ cell B img k′ o′)
-        → Linked B N w′ img₁ f k s o → Growing (suc m) w out img f s o
-    taken-one m k w w′ out img img₁ o t he e v = record {
+    taken-one : (k : ℕ) (w w′ : W) (out img img₁ : List ℕ) (o : GrowOut W) → Taken N health tries L Ok Exact goods w w′ out img k
+        → ((k′ o′ : ℕ) → k ≢ k′ → o′ < B → cell B img₁ k′ o′ ≡ cell B img k′ o′) → Linked B N w′ img₁ f k s o → Growing out img f s o
+    taken-one k w w′ out img img₁ o t e v = record {
       out′ = k ∷ out;
       card = v .card;
       stays = all;
@@ -121,10 +106,6 @@ module _ {W : Type 0} (B N : ℕ) (health : List ℕ) (tries : W → ℕ) (alloc
           mid = img₁;
           before = λ k′ o′ u l. e k′ o′ (t .new k′ u) l;
           made = v .made;
-          fewer = rw (v .rest) (t .fewer);
-          exact = λ x. rw (v .rest) (t .exact x);
-          good = λ x y. rw (v .rest) (rw (he, y) at (t .count x));
-          spoilt = λ x y. rw (v .rest) (rw (he, y) at (t .count x));
         },
       );
     }
@@ -134,7 +115,7 @@ module _ {W : Type 0} (B N : ℕ) (health : List ℕ) (tries : W → ℕ) (alloc
 
     -- A growth of a sound list takes a block that was not known, or finds none; nothing that was known changes.
     pub growing : (m : ℕ) (w : W) (out img : List ℕ) → Card B N (length img) → Ok w out img → Holds B N img f s → (0 < s → f (indexAt B (s - 1)) ≡ head)
-        → ((i : ℕ) → start B i < s → Known L out (f i)) → Growing m w out img f s (growOf alloc m w health B N head s img)
+        → ((i : ℕ) → start B i < s → Known L out (f i)) → Growing out img f s (growOf alloc m w health B N head s img)
     unfolding growOf
     growing zero w out img c ok h t cl = record {
       out′ = out;
@@ -142,14 +123,14 @@ module _ {W : Type 0} (B N : ℕ) (health : List ℕ) (tries : W → ℕ) (alloc
       stays = λ k o u l. refl;
       ok = ok;
       less = λ k u. u;
-      end = inl (refl, λ x l. absurd (omega arith));
+      end = inl refl;
     }
     growing (suc m) w out img c ok h t cl = by (alloc w img) refl (growing m)
       where
         by : (a : Took W) → alloc w img ≡ a
             → ((w : W) (out img : List ℕ) → Card B N (length img) → Ok w out img → Holds B N img f s → (0 < s → f (indexAt B (s - 1)) ≡ head)
-            → ((i : ℕ) → start B i < s → Known L out (f i)) → Growing m w out img f s (growOf alloc m w health B N head s img))
-            → Growing (suc m) w out img f s (growOf alloc (suc m) w health B N head s img)
+            → ((i : ℕ) → start B i < s → Known L out (f i)) → Growing out img f s (growOf alloc m w health B N head s img))
+            → Growing out img f s (growOf alloc (suc m) w health B N head s img)
         by (None w′) e ih =
             let n = al .none w w′ out img ok e in
             rw (growOf, e) (record {
@@ -158,7 +139,7 @@ module _ {W : Type 0} (B N : ℕ) (health : List ℕ) (tries : W → ℕ) (alloc
               stays = λ k o u l. refl;
               ok = n .0;
               less = λ k u. u;
-              end = inl (refl, λ x l. n .1 x);
+              end = inl refl;
             })
         by (Bad w′) e ih = absurd (al .never w w′ out img ok e)
         by (Block k w′) e ih = step (refusesErase health k) refl (spoils health N k head s) refl
@@ -183,14 +164,14 @@ module _ {W : Type 0} (B N : ℕ) (health : List ℕ) (tries : W → ℕ) (alloc
                 known (inr a) = inr (inr a)
 
             step : (x : Bool) → refusesErase health k ≡ x → (y : Bool) → spoils health N k head s ≡ y
-                → Growing (suc m) w out img f s (growOf alloc (suc m) w health B N head s img)
+                → Growing out img f s (growOf alloc (suc m) w health B N head s img)
             step true q y r =
-                rw (growOf, e, q) (later m k w w′ out img img _ tk (λ x. rw q at (tk .count x)) (λ k′ o′ ne l. refl) (ih w′ (k ∷ out) img c (tk .ok) h t cl′))
+                rw (growOf, e, q) (later k w w′ out img img _ tk (λ k′ o′ ne l. refl) (ih w′ (k ∷ out) img c (tk .ok) h t cl′))
             step false q true r =
                 rw (growOf, e, q, r)
-                (later m k w w′ out img (wiped B k img) _ tk (λ x. rw (q, spoilt-two health N k head s r) at (tk .count x)) ow
+                (later k w w′ out img (wiped B k img) _ tk ow
                 (ih w′ (k ∷ out) (wiped B k img) cw (al .frame w′ (k ∷ out) img (wiped B k img) (tk .ok) cw (λ k′ o′ u l. ow k′ o′ (tk .new k′ (inl u)) l)) hw t cl′))
             step false q false r =
                 rw (growOf, e, q, r)
-                (taken-one m k w w′ out img (wiped B k img) _ tk q ow
+                (taken-one k w w′ out img (wiped B k img) _ tk ow
                 (linked B N w′ f k s (tk .low) (λ i u. tk .new (f i) (cl i u)) head (wiped B k img) cw hw t s refl))

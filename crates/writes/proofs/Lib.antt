@@ -18,5 +18,4 @@ pub mod Writes
 pub mod Counts
 pub mod Counting
 pub mod Listed
-pub mod Gaps
 mod Examples

@@ -68,10 +68,10 @@ module _ (B N : ℕ) (health ks₀ : List ℕ) where
       never [] w′ out img o e = let z : _≡_ {A = ℕ} 0 1 = cc in omega arith
       never (x ∷ xs) w′ out img o e = let z : _≡_ {A = ℕ} 0 1 = cc in omega arith
 
-  -- A write from the blocks ks₀ on is written if as many good ones are among them as it needs, else refused.
+  -- A write from the blocks ks₀ on is written, or refused for want of blocks.
   pub write-listed : (j : Job) (img : List ℕ) → Card B N (length img) → Supply N ks₀ → SoundList img B N (j .head) (j .old)
       → ((i : ℕ) → start B i < j .old → Out (blockAt img B (j .head) (j .old) i) ks₀) → 0 < length (j .src) → new j < 2 ^ 32
-      → Outcome B N j (Rest ks₀) (InOrder N ks₀) (λ ks. Unit {0}) (goods health) ks₀ img
+      → Outcome B N j (Rest ks₀) (InOrder N ks₀) img
       (putOf (lookAt B (j .head) (j .old)) length handOut health B N j ks₀ img)
   write-listed j img c su so cl sm ft =
       write-plain (lookAt B (j .head) (j .old)) B N health length handOut (Rest ks₀) (InOrder N ks₀) (λ ks. Unit {0}) (goods health) listed j ks₀ img

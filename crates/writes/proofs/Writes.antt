@@ -3,7 +3,7 @@ use mathlib.Core.Path.{_≡_, refl, sym, ap, _∙_, subst}
 use mathlib.Core.Logic.{_≢_, inl, inr}
 use mathlib.Core.Bool.{true}
 use mathlib.Core.List.{List, []}
-use Prim.Native.Nat.{ℕ, zero, suc, _+_, _-_, _^_, _≤_, _<_, max}
+use Prim.Native.Nat.{ℕ, zero, suc, _-_, _^_, _≤_, _<_, max}
 use native.Mathlib.Omega.{arith}
 use lib.ListN.{length}
 use lib.Seq.{ext-getD}
@@ -16,14 +16,14 @@ use Rattle.store.specs.Write.{Job, new, kept, over, Written, NoRoom, WriteOut, 
 use Rattle.writes.specs.Cells.{bytes}
 use Rattle.writes.specs.Lists.{blockAt, Holds}
 use Rattle.writes.specs.Allocator.{In, Known, Stays, Allocator}
-use Rattle.writes.specs.Plain.{plainWrite, need}
+use Rattle.writes.specs.Plain.{plainWrite}
 use Rattle.writes.proofs.Index.{in-block, start-lt}
 use Rattle.writes.proofs.Holds.{shrinks, at-is, sound-bytes, bytes-length, bytes-at}
 use Rattle.writes.proofs.Lists.{list-holds, holds-list}
 use Rattle.writes.proofs.Plain.{plain-length, plain-low}
 use Rattle.writes.proofs.Looks.{wanted-looked}
 use Rattle.writes.proofs.States.{Begin, State}
-use Rattle.writes.proofs.Loops.{Ended, done, short, writing, some-need}
+use Rattle.writes.proofs.Loops.{Ended, done, short, writing}
 
 first-head : (look : List ℕ → ℕ → Look) (img : List ℕ) (old : ℕ) (f : ℕ → ℕ) (B : ℕ) → ((p : ℕ) → p < old → look img p ≡ Found (f (indexAt B p)))
     → (q : ℕ) → 0 < q → q ≤ old → f (indexAt B (q - 1)) ≡ firstHead look img q
@@ -67,15 +67,10 @@ pub record Refused {W : Type 0} (B N : ℕ) (L : ℕ → Type 0) (Ok : W → Lis
   pub ok : Ok (o .rest) out (o .image)
   pub stays : Stays B L img (o .image)
 
--- how many blocks a write needs: index(new size - 1) - index(q) + 1
-abbrev pub needed : ℕ → Job → ℕ
-needed B j = indexAt B (new j - 1) - indexAt B (kept j) + 1
-
--- How a write ends: written, or refused for want of blocks. Where the allocator's count is exact, the blocks needed were there, or were not.
-pub data Outcome {W : Type 0} (B N : ℕ) (j : Job) (L : ℕ → Type 0) (Ok : W → List ℕ → List ℕ → Type 0) (Exact : W → Type 0) (goods : W → ℕ)
-    (w : W) (img : List ℕ) (o : WriteOut W) : Type 0 where
-  written : (h : ℕ) (out : List ℕ) → Accepted B N j L Ok img o h out → (Exact w → needed B j ≤ goods w) → Outcome B N j L Ok Exact goods w img o
-  refused : (out : List ℕ) → Refused B N L Ok img o out → (Exact w → goods w < needed B j) → Outcome B N j L Ok Exact goods w img o
+-- How a write ends: written, or refused for want of blocks.
+pub data Outcome {W : Type 0} (B N : ℕ) (j : Job) (L : ℕ → Type 0) (Ok : W → List ℕ → List ℕ → Type 0) (img : List ℕ) (o : WriteOut W) : Type 0 where
+  written : (h : ℕ) (out : List ℕ) → Accepted B N j L Ok img o h out → Outcome B N j L Ok img o
+  refused : (out : List ℕ) → Refused B N L Ok img o out → Outcome B N j L Ok img o
 
 module _ {W : Type 0} (look : List ℕ → ℕ → Look) (B N : ℕ) (health : List ℕ) (tries : W → ℕ) (alloc : W → List ℕ → Took W)
     (L : ℕ → Type 0) (Ok : W → List ℕ → List ℕ → Type 0) (Exact : W → Type 0) (goods : W → ℕ)
@@ -154,18 +149,14 @@ module _ {W : Type 0} (look : List ℕ → ℕ → Look) (B N : ℕ) (health : L
   abbrev o : WriteOut W
   o = writeOf look tries alloc (suc (tries w)) health B N j w (firstHead look img (kept j)) (kept j) img
 
-  -- A write on a sound list is written, or refused for want of blocks, and never damaged; and where the allocator's count is exact, it is refused
-  -- exactly if fewer good blocks are left than it needs.
-  pub write-plain : Outcome B N j L Ok Exact goods w img (putOf look tries alloc health B N j w img)
+  -- A write on a sound list is written, or refused for want of blocks, and never damaged.
+  pub write-plain : Outcome B N j L Ok img (putOf look tries alloc health B N j w img)
   unfolding putOf
   write-plain = rw (putOf, all-looked) (go (writing look B N health tries alloc L Ok Exact goods al j img f₀ begin (suc (tries w)) w [] img f₀ _ (kept j) first))
     where
       all-looked : looked look img (wanted B j) ≡ true
       all-looked = wanted-looked look img B j (λ p l. (_, g .looks img (g .card) (λ k o u h. refl) p l)) sized (g .fits) (g .some)
 
-      nd : need B j (kept j) ≡ needed B j
-      nd = some-need B j (kept j) more
-
-      go : Ended look B N health tries alloc L Ok Exact goods al j img f₀ (suc (tries w)) w (kept j) o → Outcome B N j L Ok Exact goods w img o
-      go (done out f h a st e) = written h out (accepted o out f h a st) (λ x. omega (arith, nd, e x))
-      go (short out a c ok s e) = refused out (record { answer = a; card = c; ok = ok; stays = s }) (λ x. omega (arith, nd, e x (omega arith)))
+      go : Ended look B N health tries alloc L Ok Exact goods al j img f₀ o → Outcome B N j L Ok img o
+      go (done out f h a st) = written h out (accepted o out f h a st)
+      go (short out a c ok s) = refused out (record { answer = a; card = c; ok = ok; stays = s })

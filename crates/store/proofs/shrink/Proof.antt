@@ -41,19 +41,22 @@ returns-2 : tie.Need-returns-2
 returns-2 c =
     let s = c .before .before .before .before .before .before .before .before in
     let a = s .args in
-    shrinks-found (a .b) (a .n) (a .image .now) (a .w) (a .t5) (a .i) (a .size) (c .before .before .before .before .before .before .if1 .left) (c .before .before .before .before .find-in .ensures) _ _ _ (c .before .before .found .given .1) (c .put2 .ensures)
+    shrinks-found (a .b) (a .n) (a .image .now) (a .w) (a .t5) (a .i) (a .size) (c .before .before .before .before .before .before .if1 .left)
+    (c .before .before .before .before .find-in .ensures) _ _ _ (c .before .before .found .given .1) (c .put2 .ensures)
 
 returns-3 : tie.Need-returns-3
 returns-3 c =
     let s = c .before .before .before .before .before .before in
     let a = s .args in
-    shrinks-damaged (a .b) (a .n) (a .image .now) (a .w) (a .t5) (a .i) (a .size) (c .before .before .before .before .if1 .left) (c .before .before .find-in .ensures) (c .enum-told .given .1)
+    shrinks-damaged (a .b) (a .n) (a .image .now) (a .w) (a .t5) (a .i) (a .size) (c .before .before .before .before .if1 .left)
+    (c .before .before .find-in .ensures) (c .enum-told .given .1)
 
 returns-4 : tie.Need-returns-4
 returns-4 c =
     let s = c .before .before .before .before .before .before in
     let a = s .args in
-    shrinks-refused (a .b) (a .n) (a .image .now) (a .w) (a .t5) (a .i) (a .size) (c .before .before .before .before .if1 .left) (c .before .before .find-in .ensures) (c .enum-told2 .given .1)
+    shrinks-refused (a .b) (a .n) (a .image .now) (a .w) (a .t5) (a .i) (a .size) (c .before .before .before .before .if1 .left)
+    (c .before .before .find-in .ensures) (c .enum-told2 .given .1)
 
 pub shrink-spec : {M : Type 1} → statement M
 shrink-spec =

@@ -16,22 +16,28 @@ good-health-requires c κs = search needs
 
 returns-2 : tie.Need-returns-2
 returns-2 c =
-    no-health _ _ _ _ _ _ (held (c .before .before .before .good-card .ensures) (c .before .before .if1 .left)) (fails (c .before .good-health .ensures) (c .if2 .taken))
+    no-health _ _ _ _ _ _ (held (c .before .before .before .good-card .ensures) (c .before .before .if1 .left))
+    (fails (c .before .good-health .ensures) (c .if2 .taken))
 
 valid-lookahead-requires : tie.Need-valid-lookahead-requires
 valid-lookahead-requires c κs = search needs
 
 returns-3 : tie.Need-returns-3
 returns-3 c =
-    no-lookahead _ _ _ _ _ _ (held (c .before .before .before .before .before .good-card .ensures) (c .before .before .before .before .if1 .left)) (held (c .before .before .before .good-health .ensures) (c .before .before .if2 .left)) (fails (c .before .valid-lookahead .ensures) (c .if3 .taken))
+    no-lookahead _ _ _ _ _ _ (held (c .before .before .before .before .before .good-card .ensures) (c .before .before .before .before .if1 .left))
+    (held (c .before .before .before .good-health .ensures) (c .before .before .if2 .left))
+    (fails (c .before .valid-lookahead .ensures) (c .if3 .taken))
 
 valid-window-requires : tie.Need-valid-window-requires
 valid-window-requires c κs =
-    lookahead-le _ _ _ _ (held (c .before .before .before .before .before .good-card .ensures) (c .before .before .before .before .if1 .left)) (held (c .before .valid-lookahead .ensures) (c .if3 .left))
+    lookahead-le _ _ _ _ (held (c .before .before .before .before .before .good-card .ensures) (c .before .before .before .before .if1 .left))
+    (held (c .before .valid-lookahead .ensures) (c .if3 .left))
 
 returns-4 : tie.Need-returns-4
 returns-4 c =
-    last-test _ _ _ _ _ _ (held (c .before .before .before .before .before .before .good-card .ensures) (c .before .before .before .before .before .if1 .left)) (held (c .before .before .before .before .good-health .ensures) (c .before .before .before .if2 .left)) (held (c .before .before .valid-lookahead .ensures) (c .before .if3 .left)) (c .valid-window .ensures)
+    last-test _ _ _ _ _ _ (held (c .before .before .before .before .before .before .good-card .ensures)
+    (c .before .before .before .before .before .if1 .left)) (held (c .before .before .before .before .good-health .ensures)
+    (c .before .before .before .if2 .left)) (held (c .before .before .valid-lookahead .ensures) (c .before .if3 .left)) (c .valid-window .ensures)
 
 pub valid-store-spec : {M : Type 1} → statement M
 valid-store-spec =

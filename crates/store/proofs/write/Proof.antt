@@ -15,7 +15,8 @@ returns : tie.Need-returns
 returns c =
     let s = c .before .before .before .before .before in
     let a = s .args in
-    gives _ _ _ _ (write-untested (a .g .«block_size») (a .g .«block_count») (a .l) (a .image .now) (a .health .now) (a .w) (a .t6) (a .number) (a .pos) (a .«data» .now) (fails (c .before .valid-store .ensures) (c .if1 .taken)))
+    gives _ _ _ _ (write-untested (a .g .«block_size») (a .g .«block_count») (a .l) (a .image .now) (a .health .now) (a .w) (a .t6) (a .number)
+    (a .pos) (a .«data» .now) (fails (c .before .valid-store .ensures) (c .if1 .taken)))
 
 find-requires : tie.Need-find-requires
 find-requires c κs = search needs
@@ -29,7 +30,8 @@ returns-2 c =
     let a = s .args in
     let t = held (c .before .before .before .before .before .before .valid-store .ensures) (c .before .before .before .before .before .if1 .left) in
     let f = sym (c .before .before .before .before .find .ensures) ∙ c .before .before .place .given .1 in
-    gives _ _ _ _ (write-far (a .g .«block_size») (a .g .«block_count») (a .l) (a .image .now) (a .health .now) (a .w) (a .t6) (a .number) (a .pos) (a .«data» .now) t _ f (c .if2 .taken))
+    gives _ _ _ _ (write-far (a .g .«block_size») (a .g .«block_count») (a .l) (a .image .now) (a .health .now) (a .w) (a .t6) (a .number) (a .pos)
+    (a .«data» .now) t _ f (c .if2 .taken))
 
 cast-if3 : tie.Need-cast-if3
 cast-if3 c = search needs
@@ -38,17 +40,21 @@ returns-3 : tie.Need-returns-3
 returns-3 c =
     let s = c .before .before .before .before .before .before .before .before .before .before .before in
     let a = s .args in
-    let t = held (c .before .before .before .before .before .before .before .valid-store .ensures) (c .before .before .before .before .before .before .if1 .left) in
+    let t = held (c .before .before .before .before .before .before .before .valid-store .ensures)
+    (c .before .before .before .before .before .before .if1 .left) in
     let f = sym (c .before .before .before .before .before .find .ensures) ∙ c .before .before .before .place .given .1 in
-    gives _ _ _ _ (write-large (a .g .«block_size») (a .g .«block_count») (a .l) (a .image .now) (a .health .now) (a .w) (a .t6) (a .number) (a .pos) (a .«data» .now) t _ f (c .before .if2 .left) (omega (arith, c .before .if2 .left, c .if3 .taken)))
+    gives _ _ _ _ (write-large (a .g .«block_size») (a .g .«block_count») (a .l) (a .image .now) (a .health .now) (a .w) (a .t6) (a .number) (a .pos)
+    (a .«data» .now) t _ f (c .before .if2 .left) (omega (arith, c .before .if2 .left, c .if3 .taken)))
 
 returns-4 : tie.Need-returns-4
 returns-4 c =
     let s = c .before .before .before .before .before .before .before .before .before .before .before .before in
     let a = s .args in
-    let t = held (c .before .before .before .before .before .before .before .before .valid-store .ensures) (c .before .before .before .before .before .before .before .if1 .left) in
+    let t = held (c .before .before .before .before .before .before .before .before .valid-store .ensures)
+    (c .before .before .before .before .before .before .before .if1 .left) in
     let f = sym (c .before .before .before .before .before .before .find .ensures) ∙ c .before .before .before .before .place .given .1 in
-    gives _ _ _ _ (write-none (a .g .«block_size») (a .g .«block_count») (a .l) (a .image .now) (a .health .now) (a .w) (a .t6) (a .number) (a .pos) (a .«data» .now) t _ f (c .before .before .if2 .left) (omega (arith, c .before .before .if2 .left, c .before .if3 .left)) (c .if4 .taken))
+    gives _ _ _ _ (write-none (a .g .«block_size») (a .g .«block_count») (a .l) (a .image .now) (a .health .now) (a .w) (a .t6) (a .number) (a .pos)
+    (a .«data» .now) t _ f (c .before .before .if2 .left) (omega (arith, c .before .before .if2 .left, c .before .if3 .left)) (c .if4 .taken))
 
 cast-e : tie.Need-cast-e
 cast-e c = search needs
@@ -60,7 +66,8 @@ element-copy-out-e : tie.Need-element-copy-out-e
 element-copy-out-e c =
     let s = c .before .before .before .before .before .before .before .before .before .before .before .before in
     let a = s .args in
-    let t = held (c .before .before .before .before .before .before .before .before .valid-store .ensures) (c .before .before .before .before .before .before .before .if1 .left) in
+    let t = held (c .before .before .before .before .before .before .before .before .valid-store .ensures)
+    (c .before .before .before .before .before .before .before .if1 .left) in
     let f = sym (c .before .before .before .before .before .before .find .ensures) ∙ c .before .before .before .before .place .given .1 in
     let i = c .before .before .before .before .place .given .0 .0 in
     slot (a .g .«block_size») (a .g .«block_count») (a .l) (a .image .now) (a .health .now) (a .w) (a .t6) (a .number) i t f
@@ -69,17 +76,22 @@ put-requires : tie.Need-put-requires
 put-requires c κs =
     let s = c .before .before .before .before .before .before .before .before .before .before .before .before .before .before in
     let a = s .args in
-    let t = held (c .before .before .before .before .before .before .before .before .before .before .valid-store .ensures) (c .before .before .before .before .before .before .before .before .before .if1 .left) in
-    let f = sym (c .before .before .before .before .before .before .before .before .find .ensures) ∙ c .before .before .before .before .before .before .place .given .1 in
+    let t = held (c .before .before .before .before .before .before .before .before .before .before .valid-store .ensures)
+    (c .before .before .before .before .before .before .before .before .before .if1 .left) in
+    let f = sym (c .before .before .before .before .before .before .before .before .find .ensures)
+    ∙ c .before .before .before .before .before .before .place .given .1 in
     let i = c .before .before .before .before .before .before .place .given .0 .0 in
-    putting (a .g .«block_size») (a .g .«block_count») (a .l) (a .image .now) (a .health .now) (a .w) (a .t6) (a .number) i t f _ _ (omega (arith, c .before .before .before .before .if2 .left, c .before .before .before .if3 .left))
+    putting (a .g .«block_size») (a .g .«block_count») (a .l) (a .image .now) (a .health .now) (a .w) (a .t6) (a .number) i t f _ _
+    (omega (arith, c .before .before .before .before .if2 .left, c .before .before .before .if3 .left))
 
 finish-requires : tie.Need-finish-requires
 finish-requires c κs =
     let s = c .before .before .before .before .before .before .before .before .before .before .before .before .before .before .before .before .before in
     let a = s .args in
-    let t = held (c .before .before .before .before .before .before .before .before .before .before .before .before .before .valid-store .ensures) (c .before .before .before .before .before .before .before .before .before .before .before .before .if1 .left) in
-    let f = sym (c .before .before .before .before .before .before .before .before .before .before .before .find .ensures) ∙ c .before .before .before .before .before .before .before .before .before .place .given .1 in
+    let t = held (c .before .before .before .before .before .before .before .before .before .before .before .before .before .valid-store .ensures)
+    (c .before .before .before .before .before .before .before .before .before .before .before .before .if1 .left) in
+    let f = sym (c .before .before .before .before .before .before .before .before .before .before .before .find .ensures)
+    ∙ c .before .before .before .before .before .before .before .before .before .place .given .1 in
     let i = c .before .before .before .before .before .before .before .before .before .place .given .0 .0 in
     slot (a .g .«block_size») (a .g .«block_count») (a .l) (a .image .now) (a .health .now) (a .w) (a .t6) (a .number) i t f
 
@@ -97,23 +109,28 @@ returns-5 c =
     let s = c .before .before .before .before .before .before .before .before .before .before .before .before .before .before .before .before .before .before in
     let a = s .args in
     let t = held (c .before .before .before .before .before .before .before .before .before .before .before .before .before .before .valid-store .ensures) (c .before .before .before .before .before .before .before .before .before .before .before .before .before .if1 .left) in
-    let f = sym (c .before .before .before .before .before .before .before .before .before .before .before .before .find .ensures) ∙ c .before .before .before .before .before .before .before .before .before .before .place .given .1 in
+    let f = sym (c .before .before .before .before .before .before .before .before .before .before .before .before .find .ensures)
+    ∙ c .before .before .before .before .before .before .before .before .before .before .place .given .1 in
     let i = c .before .before .before .before .before .before .before .before .before .before .place .given .0 .0 in
-    rw (write-some (a .g .«block_size») (a .g .«block_count») (a .l) (a .image .now) (a .health .now) (a .w) (a .t6) (a .number) (a .pos) (a .«data» .now) t i f (c .before .before .before .before .before .before .before .before .if2 .left) (omega (arith, c .before .before .before .before .before .before .before .before .if2 .left, c .before .before .before .before .before .before .before .if3 .left)) (c .before .before .before .before .before .before .if4 .left)) (finishes (a .t6) i (c .before .before .before .put .ensures) (c .finish .ensures))
+    rw (write-some (a .g .«block_size») (a .g .«block_count») (a .l) (a .image .now) (a .health .now) (a .w) (a .t6) (a .number) (a .pos)
+    (a .«data» .now) t i f (c .before .before .before .before .before .before .before .before .if2 .left)
+    (omega (arith, c .before .before .before .before .before .before .before .before .if2 .left, c .before .before .before .before .before .before .before .if3 .left)) (c .before .before .before .before .before .before .if4 .left)) (finishes (a .t6) i (c .before .before .before .put .ensures) (c .finish .ensures))
 
 returns-6 : tie.Need-returns-6
 returns-6 c =
     let s = c .before .before .before .before .before .before .before .before in
     let a = s .args in
     let t = held (c .before .before .before .before .valid-store .ensures) (c .before .before .before .if1 .left) in
-    gives _ _ _ _ (write-missing (a .g .«block_size») (a .g .«block_count») (a .l) (a .image .now) (a .health .now) (a .w) (a .t6) (a .number) (a .pos) (a .«data» .now) t (sym (c .before .before .find .ensures) ∙ c .enum-told .given .1))
+    gives _ _ _ _ (write-missing (a .g .«block_size») (a .g .«block_count») (a .l) (a .image .now) (a .health .now) (a .w) (a .t6) (a .number)
+    (a .pos) (a .«data» .now) t (sym (c .before .before .find .ensures) ∙ c .enum-told .given .1))
 
 returns-7 : tie.Need-returns-7
 returns-7 c =
     let s = c .before .before .before .before .before .before .before .before in
     let a = s .args in
     let t = held (c .before .before .before .before .valid-store .ensures) (c .before .before .before .if1 .left) in
-    gives _ _ _ _ (write-no-table (a .g .«block_size») (a .g .«block_count») (a .l) (a .image .now) (a .health .now) (a .w) (a .t6) (a .number) (a .pos) (a .«data» .now) t (sym (c .before .before .find .ensures) ∙ c .enum-told2 .given .1))
+    gives _ _ _ _ (write-no-table (a .g .«block_size») (a .g .«block_count») (a .l) (a .image .now) (a .health .now) (a .w) (a .t6) (a .number)
+    (a .pos) (a .«data» .now) t (sym (c .before .before .find .ensures) ∙ c .enum-told2 .given .1))
 
 pub write-spec : {M : Type 1} → statement M
 write-spec =

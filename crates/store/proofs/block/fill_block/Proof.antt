@@ -35,8 +35,11 @@ front-requires c κs =
     let s = c .before .before .before .before .before .before .before in
     let a = s .args in
     let j = jobOf (a .e) (a .pos) (a .«data» .now) in
-    let m = share-is (a .b) j (a .off) (a .s) _ (c .before .least .result) (c .before .before .before .beyond .ensures) (c .before .least .ensures) in
-    (room-of _ _ _ (filling-link (s .pre) (a .image .now) refl) refl (share-fits (a .b) j (a .off) (a .s) (c .before .least .result) m (s .pre .room)), omega (arith, s .pre .fits))
+    let m = share-is (a .b) j (a .off) (a .s) _ (c .before .least .result) (c .before .before .before .beyond .ensures) (c .before .least .ensures) in (
+      room-of _ _ _ (filling-link (s .pre) (a .image .now) refl) refl (share-fits (a .b) j (a .off) (a .s) (c .before .least .result) m
+          (s .pre .room)),
+      omega (arith, s .pre .fits),
+    )
 
 enum-told : tie.Need-enum-told
 enum-told c = search needs
@@ -52,8 +55,11 @@ returns c =
     let s = c .before .before .before .before .before .before .before .before .before .before .before .before in
     let a = s .args in
     let j = jobOf (a .e) (a .pos) (a .«data» .now) in
-    let m = share-is (a .b) j (a .off) (a .s) _ (c .before .before .before .before .before .before .least .result) (c .before .before .before .before .before .before .before .before .beyond .ensures) (c .before .before .before .before .before .before .least .ensures) in
-    fill-spoiled (lookIn (a .b) (a .n) (a .e)) _ (a .b) j (a .k) (a .off) (a .s) _ (c .before .before .before .before .before .before .least .result) m (c .before .before .before .before .front .ensures) (c .enum-told2 .given .1)
+    let m = share-is (a .b) j (a .off) (a .s) _ (c .before .before .before .before .before .before .least .result)
+    (c .before .before .before .before .before .before .before .before .beyond .ensures)
+    (c .before .before .before .before .before .before .least .ensures) in
+    fill-spoiled (lookIn (a .b) (a .n) (a .e)) _ (a .b) j (a .k) (a .off) (a .s) _
+    (c .before .before .before .before .before .before .least .result) m (c .before .before .before .before .front .ensures) (c .enum-told2 .given .1)
 
 beyond-requires-2 : tie.Need-beyond-requires-2
 beyond-requires-2 c κs = search needs
@@ -69,8 +75,13 @@ returns-2 c =
     let s = c .before .before .before .before .before .before .before .before .before .before .before .before .before .before in
     let a = s .args in
     let j = jobOf (a .e) (a .pos) (a .«data» .now) in
-    let m = share-is (a .b) j (a .off) (a .s) _ (c .before .before .before .before .before .before .before .before .least .result) (c .before .before .before .before .before .before .before .before .before .before .beyond .ensures) (c .before .before .before .before .before .before .before .before .least .ensures) in
-    fill-whole (lookIn (a .b) (a .n) (a .e)) _ (a .b) j (a .k) (a .off) (a .s) _ (c .before .before .before .before .before .before .before .before .least .result) m (c .before .before .before .before .before .before .front .ensures) (c .before .before .enum-told .given .1) _ (c .before .beyond2 .ensures) (c .if1 .taken)
+    let m = share-is (a .b) j (a .off) (a .s) _ (c .before .before .before .before .before .before .before .before .least .result)
+    (c .before .before .before .before .before .before .before .before .before .before .beyond .ensures)
+    (c .before .before .before .before .before .before .before .before .least .ensures) in
+    fill-whole (lookIn (a .b) (a .n) (a .e)) _ (a .b) j (a .k) (a .off) (a .s) _
+    (c .before .before .before .before .before .before .before .before .least .result) m
+    (c .before .before .before .before .before .before .front .ensures) (c .before .before .enum-told .given .1) _ (c .before .beyond2 .ensures)
+    (c .if1 .taken)
 
 add-look : tie.Need-add-look
 add-look c = search needs
@@ -80,8 +91,13 @@ look-requires c κs =
     let s = c .before .before .before .before .before .before .before .before .before .before .before .before .before .before .before in
     let a = s .args in
     let j = jobOf (a .e) (a .pos) (a .«data» .now) in
-    let m = share-is (a .b) j (a .off) (a .s) _ (c .before .before .before .before .before .before .before .before .before .least .result) (c .before .before .before .before .before .before .before .before .before .before .before .beyond .ensures) (c .before .before .before .before .before .before .before .before .before .least .ensures) in
-    (filling-look (s .pre) (c .before .before .before .before .before .before .before .front .last .0) (c .before .before .before .before .before .before .before .front .kept .0), (tail-below (a .b) j (a .off) (a .s) _ _ m (c .before .before .beyond2 .ensures) (c .before .if1 .left)))
+    let m = share-is (a .b) j (a .off) (a .s) _ (c .before .before .before .before .before .before .before .before .before .least .result)
+    (c .before .before .before .before .before .before .before .before .before .before .before .beyond .ensures)
+    (c .before .before .before .before .before .before .before .before .before .least .ensures) in (
+      filling-look (s .pre) (c .before .before .before .before .before .before .before .front .last .0)
+          (c .before .before .before .before .before .before .before .front .kept .0),
+      (tail-below (a .b) j (a .off) (a .s) _ _ m (c .before .before .beyond2 .ensures) (c .before .if1 .left)),
+    )
 
 enum-known-old : tie.Need-enum-known-old
 enum-known-old c = search needs
@@ -100,8 +116,28 @@ program-copy-requires c κs =
     let s = c .before .before .before .before .before .before .before .before .before .before .before .before .before .before .before .before .before .before .before .before in
     let a = s .args in
     let j = jobOf (a .e) (a .pos) (a .«data» .now) in
-    let m = share-is (a .b) j (a .off) (a .s) _ (c .before .before .before .before .before .before .before .before .before .before .before .before .before .before .least .result) (c .before .before .before .before .before .before .before .before .before .before .before .before .before .before .before .before .beyond .ensures) (c .before .before .before .before .before .before .before .before .before .before .before .before .before .before .least .ensures) in
-    (room-of _ _ _ (filling-link (s .pre) (c .before .before .before .before .before .before .before .before .before .before .before .before .front .last .0) (c .before .before .before .before .before .before .before .before .before .before .before .before .front .kept .0)) refl (tail-fits _ _ _ _ (share-fits (a .b) j (a .off) (a .s) (c .before .before .before .before .before .before .before .before .before .before .before .before .before .before .least .result) m (s .pre .room)) (c .before .before .before .before .before .before .if1 .left)), source-of _ _ _ (filling-link (s .pre) (c .before .before .before .before .before .before .before .before .before .before .before .before .front .last .0) (c .before .before .before .before .before .before .before .before .before .before .before .before .front .kept .0)) (look-below (c .before .before .before .before .before .before .before .before .before .before .before .before .front .last .0) _ _ (filling-look (s .pre) (c .before .before .before .before .before .before .before .before .before .before .before .before .front .last .0) (c .before .before .before .before .before .before .before .before .before .before .before .before .front .kept .0)) (tail-below (a .b) j (a .off) (a .s) _ _ m (c .before .before .before .before .before .before .before .beyond2 .ensures) (c .before .before .before .before .before .before .if1 .left)) (told-block _ _ (sym (c .before .before .before .before .look .ensures) ∙ c .before .before .old .given .1))) (tail-fits _ _ _ _ (share-fits (a .b) j (a .off) (a .s) (c .before .before .before .before .before .before .before .before .before .before .before .before .before .before .least .result) m (s .pre .room)) (c .before .before .before .before .before .before .if1 .left)))
+    let m = share-is (a .b) j (a .off) (a .s) _
+    (c .before .before .before .before .before .before .before .before .before .before .before .before .before .before .least .result)
+    (c .before .before .before .before .before .before .before .before .before .before .before .before .before .before .before .before .beyond .ensures) (c .before .before .before .before .before .before .before .before .before .before .before .before .before .before .least .ensures) in (
+      room-of _ _ _ (filling-link (s .pre)
+          (c .before .before .before .before .before .before .before .before .before .before .before .before .front .last .0)
+          (c .before .before .before .before .before .before .before .before .before .before .before .before .front .kept .0)) refl
+          (tail-fits _ _ _ _ (share-fits (a .b) j (a .off) (a .s)
+          (c .before .before .before .before .before .before .before .before .before .before .before .before .before .before .least .result) m
+          (s .pre .room)) (c .before .before .before .before .before .before .if1 .left)),
+      source-of _ _ _
+          (filling-link (s .pre) (c .before .before .before .before .before .before .before .before .before .before .before .before .front .last .0)
+          (c .before .before .before .before .before .before .before .before .before .before .before .before .front .kept .0))
+          (look-below (c .before .before .before .before .before .before .before .before .before .before .before .before .front .last .0) _ _
+          (filling-look (s .pre) (c .before .before .before .before .before .before .before .before .before .before .before .before .front .last .0)
+          (c .before .before .before .before .before .before .before .before .before .before .before .before .front .kept .0))
+          (tail-below (a .b) j (a .off) (a .s) _ _ m (c .before .before .before .before .before .before .before .beyond2 .ensures)
+          (c .before .before .before .before .before .before .if1 .left)) (told-block _ _
+          (sym (c .before .before .before .before .look .ensures) ∙ c .before .before .old .given .1)))
+          (tail-fits _ _ _ _ (share-fits (a .b) j (a .off) (a .s)
+          (c .before .before .before .before .before .before .before .before .before .before .before .before .before .before .least .result) m
+          (s .pre .room)) (c .before .before .before .before .before .before .if1 .left)),
+    )
 
 add-t31 : tie.Need-add-t31
 add-t31 c = search needs
@@ -117,8 +153,10 @@ returns-3 c =
     let s = c .before .before .before .before .before .before .before .before .before .before .before .before .before .before .before .before .before .before .before .before .before .before .before in
     let a = s .args in
     let j = jobOf (a .e) (a .pos) (a .«data» .now) in
-    let m = share-is (a .b) j (a .off) (a .s) _ (c .before .before .before .before .before .before .before .before .before .before .before .before .before .before .before .before .before .least .result) (c .before .before .before .before .before .before .before .before .before .before .before .before .before .before .before .before .before .before .before .beyond .ensures) (c .before .before .before .before .before .before .before .before .before .before .before .before .before .before .before .before .before .least .ensures) in
-    fill-tailed (lookIn (a .b) (a .n) (a .e)) _ (a .b) j (a .k) (a .off) (a .s) _ (c .before .before .before .before .before .before .before .before .before .before .before .before .before .before .before .before .before .least .result) m (c .before .before .before .before .before .before .before .before .before .before .before .before .before .before .before .front .ensures) (c .before .before .before .before .before .before .before .before .before .before .before .enum-told .given .1) _ (c .before .before .before .before .before .before .before .before .before .before .beyond2 .ensures) (c .before .before .before .before .before .before .before .before .before .if1 .left) _ (told-block _ _ (sym (c .before .before .before .before .before .before .before .look .ensures) ∙ c .before .before .before .before .before .old .given .1)) (c .before .before .program-copy .ensures)
+    let m = share-is (a .b) j (a .off) (a .s) _
+    (c .before .before .before .before .before .before .before .before .before .before .before .before .before .before .before .before .before .least .result) (c .before .before .before .before .before .before .before .before .before .before .before .before .before .before .before .before .before .before .before .beyond .ensures) (c .before .before .before .before .before .before .before .before .before .before .before .before .before .before .before .before .before .least .ensures) in
+    fill-tailed (lookIn (a .b) (a .n) (a .e)) _ (a .b) j (a .k) (a .off) (a .s) _
+    (c .before .before .before .before .before .before .before .before .before .before .before .before .before .before .before .before .before .least .result) m (c .before .before .before .before .before .before .before .before .before .before .before .before .before .before .before .front .ensures) (c .before .before .before .before .before .before .before .before .before .before .before .enum-told .given .1) _ (c .before .before .before .before .before .before .before .before .before .before .beyond2 .ensures) (c .before .before .before .before .before .before .before .before .before .if1 .left) _ (told-block _ _ (sym (c .before .before .before .before .before .before .before .look .ensures) ∙ c .before .before .before .before .before .old .given .1)) (c .before .before .program-copy .ensures)
 
 same-length-4 : tie.Need-same-length-4
 same-length-4 c = search needs
@@ -128,8 +166,15 @@ returns-4 c =
     let s = c .before .before .before .before .before .before .before .before .before .before .before .before .before .before .before .before .before .before in
     let a = s .args in
     let j = jobOf (a .e) (a .pos) (a .«data» .now) in
-    let m = share-is (a .b) j (a .off) (a .s) _ (c .before .before .before .before .before .before .before .before .before .before .before .before .least .result) (c .before .before .before .before .before .before .before .before .before .before .before .before .before .before .beyond .ensures) (c .before .before .before .before .before .before .before .before .before .before .before .before .least .ensures) in
-    fill-lost (lookIn (a .b) (a .n) (a .e)) _ (a .b) j (a .k) (a .off) (a .s) _ (c .before .before .before .before .before .before .before .before .before .before .before .before .least .result) m (c .before .before .before .before .before .before .before .before .before .before .front .ensures) (c .before .before .before .before .before .before .enum-told .given .1) _ (c .before .before .before .before .before .beyond2 .ensures) (c .before .before .before .before .if1 .left) (told-lost _ (sym (c .before .before .look .ensures) ∙ c .enum-told3 .given .1))
+    let m = share-is (a .b) j (a .off) (a .s) _
+    (c .before .before .before .before .before .before .before .before .before .before .before .before .least .result)
+    (c .before .before .before .before .before .before .before .before .before .before .before .before .before .before .beyond .ensures)
+    (c .before .before .before .before .before .before .before .before .before .before .before .before .least .ensures) in
+    fill-lost (lookIn (a .b) (a .n) (a .e)) _ (a .b) j (a .k) (a .off) (a .s) _
+    (c .before .before .before .before .before .before .before .before .before .before .before .before .least .result) m
+    (c .before .before .before .before .before .before .before .before .before .before .front .ensures)
+    (c .before .before .before .before .before .before .enum-told .given .1) _ (c .before .before .before .before .before .beyond2 .ensures)
+    (c .before .before .before .before .if1 .left) (told-lost _ (sym (c .before .before .look .ensures) ∙ c .enum-told3 .given .1))
 
 pub fill-block-spec : {M : Type 1} → statement M
 fill-block-spec =

@@ -26,7 +26,9 @@ same-length c = search needs
 
 returns : tie.Need-returns
 returns c =
-    front-spoiled _ _ _ _ _ _ _ _ _ _ _ (c .before .before .before .before .before .before .before .beyond .ensures) (c .before .before .before .before .before .before .least .ensures) (c .before .before .before .before .program-zeros .ensures) (c .enum-told2 .given .1)
+    front-spoiled _ _ _ _ _ _ _ _ _ _ _ (c .before .before .before .before .before .before .before .beyond .ensures)
+    (c .before .before .before .before .before .before .least .ensures) (c .before .before .before .before .program-zeros .ensures)
+    (c .enum-told2 .given .1)
 
 cast-size : tie.Need-cast-size
 cast-size c = search needs
@@ -49,7 +51,10 @@ least-requires-3 c κs = search needs
 add-program : tie.Need-add-program
 add-program c =
     let s = c .before .before .before .before .before .before .before .before .before .before .before .before .before .before .before in
-    record { fits = lt-of-le-of-lt (gap-fits _ _ _ _ _ (s .pre .0 .room) (c .before .before .before .before .before .before .before .before .before .before .least .ensures)) (s .fits .b .fits) }
+    record {
+      fits = lt-of-le-of-lt (gap-fits _ _ _ _ _ (s .pre .0 .room)
+          (c .before .before .before .before .before .before .before .before .before .before .least .ensures)) (s .fits .b .fits);
+    }
 
 cast-program : tie.Need-cast-program
 cast-program c = search needs
@@ -59,16 +64,28 @@ cast-program-2 c = search needs
 
 program-requires : tie.Need-program-requires
 program-requires c κs =
-    let s = c .before .before .before .before .before .before .before .before .before .before .before .before .before .before .before in
-    (record { inside = omega (arith, c .before .before .before .before .before .before .before .before .program-zeros .kept .0, s .pre .0 .inside); known = s .pre .0 .known; room = omega (arith, c .before .before .before .before .before .before .before .before .before .before .least .ensures, c .before .least3 .ensures, s .pre .0 .room) }, omega (arith, c .before .before .least2 .ensures, c .before .least3 .ensures))
+    let s = c .before .before .before .before .before .before .before .before .before .before .before .before .before .before .before in (
+      record {
+        inside = omega
+            (arith, c .before .before .before .before .before .before .before .before .program-zeros .kept .0, s .pre .0 .inside);
+        known = s .pre .0 .known;
+        room = omega (arith, c .before .before .before .before .before .before .before .before .before .before .least .ensures, c .before .least3 .ensures, s .pre .0 .room);
+      },
+      omega (arith, c .before .before .least2 .ensures, c .before .least3 .ensures),
+    )
 
 same-length-2 : tie.Need-same-length-2
 same-length-2 c = search needs
 
 returns-2 : tie.Need-returns-2
 returns-2 c =
-    front-goes _ _ _ _ _ _ _ _ _ _ _ (c .before .before .before .before .before .before .before .before .before .before .before .before .before .before .beyond .ensures) (c .before .before .before .before .before .before .before .before .before .before .before .before .before .least .ensures) (c .before .before .before .before .before .before .before .before .before .before .before .program-zeros .ensures) (c .before .before .before .before .before .before .before .enum-told .given .1)
-    _ _ _ (c .before .before .before .before .before .before .beyond2 .ensures) (c .before .before .before .before .before .least2 .ensures) (c .before .before .before .before .least3 .ensures) (c .before .before .program .ensures)
+    front-goes _ _ _ _ _ _ _ _ _ _ _
+    (c .before .before .before .before .before .before .before .before .before .before .before .before .before .before .beyond .ensures)
+    (c .before .before .before .before .before .before .before .before .before .before .before .before .before .least .ensures)
+    (c .before .before .before .before .before .before .before .before .before .before .before .program-zeros .ensures)
+    (c .before .before .before .before .before .before .before .enum-told .given .1)
+    _ _ _ (c .before .before .before .before .before .before .beyond2 .ensures) (c .before .before .before .before .before .least2 .ensures)
+    (c .before .before .before .before .least3 .ensures) (c .before .before .program .ensures)
 
 pub front-spec : {M : Type 1} → statement M
 front-spec =

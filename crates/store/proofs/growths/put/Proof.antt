@@ -31,14 +31,19 @@ tail-looked-requires c κs =
 
 write-on-requires : tie.Need-write-on-requires
 write-on-requires c κs =
-    putting-on (c .before .before .before .before .before .before .before .before .before .before .before .before .before .before .pre) (c .before .before .before .before .before .before .before .before .before .before .alloc-ckpoint .ensures)
+    let f = c .before .before .before .before .before .before .before .before .before .before in
+    putting-on (f .before .before .before .before .pre) (f .alloc-ckpoint .ensures)
 
 same-length : tie.Need-same-length
 same-length c = search needs
 
 returns : tie.Need-returns
 returns c =
-    put-goes (c .before .before .before .before .before .before .before .before .before .before .before .before .before .before .before .before .before .pre) (c .before .before .before .before .before .before .before .before .before .before .before .before .before .alloc-ckpoint .ensures) (c .before .before .before .before .before .before .before .before .before .before .before .before .least .ensures) (c .before .before .before .before .before .before .before .before .before .before .first-head .ensures) (c .before .before .before .before .before .before .before .before .first .given .1) (c .before .before .before .before .before .tail-looked .ensures) (c .before .before .before .before .if1 .taken) (c .before .before .write-on .ensures)
+    let f = c .before .before .before .before .before .before .before .before in
+    put-goes (f .before .before .before .before .before .before .before .before .before .pre)
+    (f .before .before .before .before .before .alloc-ckpoint .ensures) (f .before .before .before .before .least .ensures)
+    (f .before .before .first-head .ensures) (f .first .given .1) (c .before .before .before .before .before .tail-looked .ensures)
+    (c .before .before .before .before .if1 .taken) (c .before .before .write-on .ensures)
 
 enum-told : tie.Need-enum-told
 enum-told c = search needs
@@ -48,14 +53,19 @@ same-length-2 c = search needs
 
 returns-2 : tie.Need-returns-2
 returns-2 c =
-    put-tailless (c .before .before .before .before .before .before .before .before .before .before .before .before .before .pre) (c .before .before .before .before .before .before .before .before .before .alloc-ckpoint .ensures) (c .before .before .before .before .before .before .before .before .least .ensures) (c .before .before .before .before .before .before .first-head .ensures) (c .before .before .before .before .first .given .1) (c .before .tail-looked .ensures) (c .if1 .left)
+    let f = c .before .before .before .before .before .before in
+    put-tailless (f .before .before .before .before .before .before .before .pre) (f .before .before .before .alloc-ckpoint .ensures)
+    (f .before .before .least .ensures) (f .first-head .ensures) (c .before .before .before .before .first .given .1)
+    (c .before .tail-looked .ensures) (c .if1 .left)
 
 same-length-3 : tie.Need-same-length-3
 same-length-3 c = search needs
 
 returns-3 : tie.Need-returns-3
 returns-3 c =
-    put-lost (c .before .before .before .before .before .before .before .before .before .pre) (c .before .before .before .before .before .alloc-ckpoint .ensures) (c .before .before .before .before .least .ensures) (c .before .before .first-head .ensures) (c .enum-told .given .1)
+    let f = c .before .before .before .before .before .before .before .before .before in
+    put-lost (f .pre) (c .before .before .before .before .before .alloc-ckpoint .ensures) (c .before .before .before .before .least .ensures)
+    (c .before .before .first-head .ensures) (c .enum-told .given .1)
 
 pub put-spec : {M : Type 1} → statement M
 put-spec =

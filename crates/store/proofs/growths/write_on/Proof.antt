@@ -28,36 +28,68 @@ loop-holds c = rest-start (c .before .before .before .before .before .pre) _ _
 
 extend-in-requires : tie.Need-extend-in-requires Inv-loop μ-loop
 extend-in-requires c κs =
-    rest-extends (c .before .before .before .before .before .before .before .before .pre) (c .before .before .loop .inv) (loop-new (c .before .before .before .before .before .before .before .before .pre) (c .before .before .before .before .beyond .ensures) (c .before .loop-test .taken))
+    let l = c .before .before in
+    let s = l .before .before .before .before .before .before in
+    rest-extends (s .pre) (l .loop .inv) (loop-new (s .pre) (l .before .before .beyond .ensures) (c .before .loop-test .taken))
 
 enum-known-answer : tie.Need-enum-known-answer Inv-loop μ-loop
 enum-known-answer c = search needs
 
 fill-block-requires : tie.Need-fill-block-requires Inv-loop μ-loop
 fill-block-requires c κs =
-    rest-fills (c .before .before .before .before .before .before .before .before .before .before .before .before .before .before .before .before .pre) (c .before .before .before .before .before .before .before .before .before .before .loop .inv) (loop-new (c .before .before .before .before .before .before .before .before .before .before .before .before .before .before .before .before .pre) (c .before .before .before .before .before .before .before .before .before .before .before .before .beyond .ensures) (c .before .before .before .before .before .before .before .before .before .loop-test .taken)) (c .before .before .before .before .before .before .before .extend-in .ensures) (c .before .before .answer .given .1) (search needs)
+    let l = c .before .before .before .before .before .before .before .before .before .before in
+    let s = l .before .before .before .before .before .before in
+    rest-fills (s .pre) (l .loop .inv) (loop-new (s .pre) (l .before .before .beyond .ensures)
+    (c .before .before .before .before .before .before .before .before .before .loop-test .taken))
+    (c .before .before .before .before .before .before .before .extend-in .ensures) (c .before .before .answer .given .1)
+    (c .before .before .before .before .before .before .before .extend-in .kept .1 .1 .1 .0)
 
 enum-known-filled : tie.Need-enum-known-filled Inv-loop μ-loop
 enum-known-filled c = search needs
 
 loop-less : tie.Need-loop-less Inv-loop μ-loop
 loop-less c =
-    falls (c .before .before .before .before .before .before .before .before .before .before .before .before .before .before .before .before .before .before .before .before .before .before .pre) (c .before .before .before .before .before .before .before .before .before .before .before .before .before .before .before .before .loop .inv) (loop-new (c .before .before .before .before .before .before .before .before .before .before .before .before .before .before .before .before .before .before .before .before .before .before .pre) (c .before .before .before .before .before .before .before .before .before .before .before .before .before .before .before .before .before .before .beyond .ensures) (c .before .before .before .before .before .before .before .before .before .before .before .before .before .before .before .loop-test .taken)) (c .before .before .before .before .before .before .before .before .before .before .before .before .before .extend-in .ensures) (c .before .before .before .before .before .before .before .before .answer .given .1)
+    let l = c .before .before .before .before .before .before .before .before .before .before .before .before .before .before .before .before in
+    let s = l .before .before .before .before .before .before in
+    falls (s .pre) (l .loop .inv) (loop-new (s .pre) (l .before .before .beyond .ensures)
+    (c .before .before .before .before .before .before .before .before .before .before .before .before .before .before .before .loop-test .taken))
+    (c .before .before .before .before .before .before .before .before .before .before .before .before .before .extend-in .ensures)
+    (c .before .before .before .before .before .before .before .before .answer .given .1)
 
 loop-again : tie.Need-loop-again Inv-loop μ-loop
 loop-again c =
-    goes-on (c .before .before .before .before .before .before .before .before .before .before .before .before .before .before .before .before .before .before .before .before .before .before .pre) (c .before .before .before .before .before .before .before .before .before .before .before .before .before .before .before .before .loop .inv) (loop-new (c .before .before .before .before .before .before .before .before .before .before .before .before .before .before .before .before .before .before .before .before .before .before .pre) (c .before .before .before .before .before .before .before .before .before .before .before .before .before .before .before .before .before .before .beyond .ensures) (c .before .before .before .before .before .before .before .before .before .before .before .before .before .before .before .loop-test .taken)) (c .before .before .before .before .before .before .before .before .before .before .before .before .before .extend-in .ensures) (c .before .before .before .before .before .before .before .before .answer .given .1) (c .before .before .before .before .before .fill-block .ensures) (search needs) (search needs) _ (c .before .filled .given .1)
+    let l = c .before .before .before .before .before .before .before .before .before .before .before .before .before .before .before .before in
+    let s = l .before .before .before .before .before .before in
+    goes-on (s .pre) (l .loop .inv) (loop-new (s .pre) (l .before .before .beyond .ensures)
+    (c .before .before .before .before .before .before .before .before .before .before .before .before .before .before .before .loop-test .taken))
+    (c .before .before .before .before .before .before .before .before .before .before .before .before .before .extend-in .ensures)
+    (c .before .before .before .before .before .before .before .before .answer .given .1)
+    (c .before .before .before .before .before .fill-block .ensures)
+    (c .before .before .before .before .before .before .before .before .before .before .before .before .before .extend-in .kept .1 .1 .1 .0)
+    (c .before .before .before .before .before .fill-block .kept .0) _ (c .before .filled .given .1)
 
 enum-told : tie.Need-enum-told Inv-loop μ-loop
 enum-told c = search needs
 
 loop-less-2 : tie.Need-loop-less-2 Inv-loop μ-loop
 loop-less-2 c =
-    falls (c .before .before .before .before .before .before .before .before .before .before .before .before .before .before .before .before .before .before .before .before .before .pre) (c .before .before .before .before .before .before .before .before .before .before .before .before .before .before .before .loop .inv) (loop-new (c .before .before .before .before .before .before .before .before .before .before .before .before .before .before .before .before .before .before .before .before .before .pre) (c .before .before .before .before .before .before .before .before .before .before .before .before .before .before .before .before .before .beyond .ensures) (c .before .before .before .before .before .before .before .before .before .before .before .before .before .before .loop-test .taken)) (c .before .before .before .before .before .before .before .before .before .before .before .before .extend-in .ensures) (c .before .before .before .before .before .before .before .answer .given .1)
+    let l = c .before .before .before .before .before .before .before .before .before .before .before .before .before .before .before in
+    let s = l .before .before .before .before .before .before in
+    falls (s .pre) (l .loop .inv) (loop-new (s .pre) (l .before .before .beyond .ensures)
+    (c .before .before .before .before .before .before .before .before .before .before .before .before .before .before .loop-test .taken))
+    (c .before .before .before .before .before .before .before .before .before .before .before .before .extend-in .ensures)
+    (c .before .before .before .before .before .before .before .answer .given .1)
 
 loop-again-2 : tie.Need-loop-again-2 Inv-loop μ-loop
 loop-again-2 c =
-    moves-on (c .before .before .before .before .before .before .before .before .before .before .before .before .before .before .before .before .before .before .before .before .before .pre) (c .before .before .before .before .before .before .before .before .before .before .before .before .before .before .before .loop .inv) (loop-new (c .before .before .before .before .before .before .before .before .before .before .before .before .before .before .before .before .before .before .before .before .before .pre) (c .before .before .before .before .before .before .before .before .before .before .before .before .before .before .before .before .before .beyond .ensures) (c .before .before .before .before .before .before .before .before .before .before .before .before .before .before .loop-test .taken)) (c .before .before .before .before .before .before .before .before .before .before .before .before .extend-in .ensures) (c .before .before .before .before .before .before .before .answer .given .1) (c .before .before .before .before .fill-block .ensures) (search needs) (search needs) (c .enum-told .given .1)
+    let l = c .before .before .before .before .before .before .before .before .before .before .before .before .before .before .before in
+    let s = l .before .before .before .before .before .before in
+    moves-on (s .pre) (l .loop .inv) (loop-new (s .pre) (l .before .before .beyond .ensures)
+    (c .before .before .before .before .before .before .before .before .before .before .before .before .before .before .loop-test .taken))
+    (c .before .before .before .before .before .before .before .before .before .before .before .before .extend-in .ensures)
+    (c .before .before .before .before .before .before .before .answer .given .1) (c .before .before .before .before .fill-block .ensures)
+    (c .before .before .before .before .before .before .before .before .before .before .before .before .extend-in .kept .1 .1 .1 .0)
+    (c .before .before .before .before .fill-block .kept .0) (c .enum-told .given .1)
 
 enum-told-2 : tie.Need-enum-told-2 Inv-loop μ-loop
 enum-told-2 c = search needs
@@ -67,7 +99,13 @@ same-length c = search needs
 
 returns : tie.Need-returns Inv-loop μ-loop
 returns c =
-    ends-lost (c .before .before .before .before .before .before .before .before .before .before .before .before .before .before .before .before .before .before .before .before .before .pre) (c .before .before .before .before .before .before .before .before .before .before .before .before .before .before .before .loop .inv) (loop-new (c .before .before .before .before .before .before .before .before .before .before .before .before .before .before .before .before .before .before .before .before .before .pre) (c .before .before .before .before .before .before .before .before .before .before .before .before .before .before .before .before .before .beyond .ensures) (c .before .before .before .before .before .before .before .before .before .before .before .before .before .before .loop-test .taken)) (c .before .before .before .before .before .before .before .before .before .before .before .before .extend-in .ensures) (c .before .before .before .before .before .before .before .answer .given .1) (c .before .before .before .before .fill-block .ensures) (c .enum-told2 .given .1)
+    let l = c .before .before .before .before .before .before .before .before .before .before .before .before .before .before .before in
+    let s = l .before .before .before .before .before .before in
+    ends-lost (s .pre) (l .loop .inv) (loop-new (s .pre) (l .before .before .beyond .ensures)
+    (c .before .before .before .before .before .before .before .before .before .before .before .before .before .before .loop-test .taken))
+    (c .before .before .before .before .before .before .before .before .before .before .before .before .extend-in .ensures)
+    (c .before .before .before .before .before .before .before .answer .given .1) (c .before .before .before .before .fill-block .ensures)
+    (c .enum-told2 .given .1)
 
 enum-told-3 : tie.Need-enum-told-3 Inv-loop μ-loop
 enum-told-3 c = search needs
@@ -77,7 +115,11 @@ same-length-2 c = search needs
 
 returns-2 : tie.Need-returns-2 Inv-loop μ-loop
 returns-2 c =
-    ends-full (c .before .before .before .before .before .before .before .before .before .before .before .before .before .before .pre) (c .before .before .before .before .before .before .before .before .loop .inv) (loop-new (c .before .before .before .before .before .before .before .before .before .before .before .before .before .before .pre) (c .before .before .before .before .before .before .before .before .before .before .beyond .ensures) (c .before .before .before .before .before .before .before .loop-test .taken)) (c .before .before .before .before .before .extend-in .ensures) (c .enum-told3 .given .1)
+    let l = c .before .before .before .before .before .before .before .before in
+    let s = l .before .before .before .before .before .before in
+    ends-full (s .pre) (l .loop .inv) (loop-new (s .pre) (l .before .before .beyond .ensures)
+    (c .before .before .before .before .before .before .before .loop-test .taken)) (c .before .before .before .before .before .extend-in .ensures)
+    (c .enum-told3 .given .1)
 
 enum-told-4 : tie.Need-enum-told-4 Inv-loop μ-loop
 enum-told-4 c = search needs
@@ -87,7 +129,11 @@ same-length-3 c = search needs
 
 returns-3 : tie.Need-returns-3 Inv-loop μ-loop
 returns-3 c =
-    ends-damaged (c .before .before .before .before .before .before .before .before .before .before .before .before .before .before .pre) (c .before .before .before .before .before .before .before .before .loop .inv) (loop-new (c .before .before .before .before .before .before .before .before .before .before .before .before .before .before .pre) (c .before .before .before .before .before .before .before .before .before .before .beyond .ensures) (c .before .before .before .before .before .before .before .loop-test .taken)) (c .before .before .before .before .before .extend-in .ensures) (c .enum-told4 .given .1)
+    let l = c .before .before .before .before .before .before .before .before in
+    let s = l .before .before .before .before .before .before in
+    ends-damaged (s .pre) (l .loop .inv) (loop-new (s .pre) (l .before .before .beyond .ensures)
+    (c .before .before .before .before .before .before .before .loop-test .taken)) (c .before .before .before .before .before .extend-in .ensures)
+    (c .enum-told4 .given .1)
 
 enum-told-5 : tie.Need-enum-told-5 Inv-loop μ-loop
 enum-told-5 c = search needs
@@ -97,14 +143,20 @@ same-length-4 c = search needs
 
 returns-4 : tie.Need-returns-4 Inv-loop μ-loop
 returns-4 c =
-    ends-refused (c .before .before .before .before .before .before .before .before .before .before .before .before .before .before .pre) (c .before .before .before .before .before .before .before .before .loop .inv) (loop-new (c .before .before .before .before .before .before .before .before .before .before .before .before .before .before .pre) (c .before .before .before .before .before .before .before .before .before .before .beyond .ensures) (c .before .before .before .before .before .before .before .loop-test .taken)) (c .before .before .before .before .before .extend-in .ensures) (c .enum-told5 .given .1)
+    let l = c .before .before .before .before .before .before .before .before in
+    let s = l .before .before .before .before .before .before in
+    ends-refused (s .pre) (l .loop .inv) (loop-new (s .pre) (l .before .before .beyond .ensures)
+    (c .before .before .before .before .before .before .before .loop-test .taken)) (c .before .before .before .before .before .extend-in .ensures)
+    (c .enum-told5 .given .1)
 
 same-length-5 : tie.Need-same-length-5 Inv-loop μ-loop
 same-length-5 c = search needs
 
 returns-5 : tie.Need-returns-5 Inv-loop μ-loop
 returns-5 c =
-    ends-done (c .before .before .before .before .before .before .before .pre) (c .before .loop .inv) (loop-end (c .before .before .before .before .before .before .before .pre) (c .before .before .before .beyond .ensures) (c .loop-test .left))
+    let l = c .before in
+    let s = l .before .before .before .before .before .before in
+    ends-done (s .pre) (l .loop .inv) (loop-end (s .pre) (l .before .before .beyond .ensures) (c .loop-test .left))
 
 pub write-on-spec : {M : Type 1} → statement M
 write-on-spec =

@@ -20,17 +20,38 @@ pointer-count-requires c κs = search needs
 mul-result : tie.Need-mul-result
 mul-result c =
     let s = c .before .before .before in
-    omega (arith, c .pointer-count .ensures, ap pointers (c .before .before .index-at .ensures), offset-past (s .args .b) (s .args .p), c .before .offset-at .ensures)
+    omega (
+      arith,
+      c .pointer-count .ensures,
+      ap pointers (c .before .before .index-at .ensures),
+      offset-past (s .args .b)
+          (s .args .p),
+      c .before .offset-at .ensures,
+    )
 
 sub-result : tie.Need-sub-result
 sub-result c =
     let s = c .before .before .before in
-    omega (arith, c .pointer-count .ensures, ap pointers (c .before .before .index-at .ensures), offset-past (s .args .b) (s .args .p), c .before .offset-at .ensures)
+    omega (
+      arith,
+      c .pointer-count .ensures,
+      ap pointers (c .before .before .index-at .ensures),
+      offset-past (s .args .b)
+          (s .args .p),
+      c .before .offset-at .ensures,
+    )
 
 sub-result-2 : tie.Need-sub-result-2
 sub-result-2 c =
     let s = c .before .before .before in
-    omega (arith, c .pointer-count .ensures, ap pointers (c .before .before .index-at .ensures), offset-of (s .args .b) (s .args .p) _ refl, c .before .offset-at .ensures)
+    omega (
+      arith,
+      c .pointer-count .ensures,
+      ap pointers (c .before .before .index-at .ensures),
+      offset-of (s .args .b)
+          (s .args .p) _ refl,
+      c .before .offset-at .ensures,
+    )
 
 returns : tie.Need-returns
 returns c =

@@ -34,7 +34,10 @@ returns-2 : tie.Need-returns-2
 returns-2 c =
     let s = c .before .before .before .before .before .before .before .before in
     let a = s .args in
-    head-lost (lookIn (a .b) (a .n) (a .e)) (a .image .now) (a .b) (a .q) (served (s .pre .0 .card .sized) (omega arith)) (look-same (a .b) (a .n) (a .e) (a .image .now)) _ (c .before .before .before .before .before .block-start .ensures) (c .before .before .before .before .if2 .taken) (c .before .before .before .if3 .taken) (told-lost _ (sym (c .before .before .look .ensures) ∙ c .enum-told2 .given .1))
+    head-lost (lookIn (a .b) (a .n) (a .e)) (a .image .now) (a .b) (a .q) (served (s .pre .0 .card .sized) (omega arith))
+    (look-same (a .b) (a .n) (a .e) (a .image .now)) _ (c .before .before .before .before .before .block-start .ensures)
+    (c .before .before .before .before .if2 .taken) (c .before .before .before .if3 .taken)
+    (told-lost _ (sym (c .before .before .look .ensures) ∙ c .enum-told2 .given .1))
 
 sub-look-2 : tie.Need-sub-look-2
 sub-look-2 c = search needs
@@ -46,7 +49,14 @@ returns-3 : tie.Need-returns-3
 returns-3 c =
     let s = c .before .before .before .before .before in
     let a = s .args in
-    c .look2 .ensures ∙ ⊎-elim (λ w. head-inside (lookIn (a .b) (a .n) (a .e)) (a .image .now) (a .b) (a .q) (served (s .pre .0 .card .sized) (omega arith)) (look-same (a .b) (a .n) (a .e) (a .image .now)) _ (c .before .before .block-start .ensures) _ (w .0 .taken) (w .1 .taken) (told-block _ _ (sym (w .2 .ensures) ∙ w .4 .given .1))) (λ v. ⊎-elim (λ w. head-border (lookIn (a .b) (a .n) (a .e)) (a .image .now) (a .b) (a .q) (served (s .pre .0 .card .sized) (omega arith)) (look-same (a .b) (a .n) (a .e) (a .image .now)) _ (c .before .before .block-start .ensures) (w .0 .taken) (w .1 .left)) (λ w. head-first (lookIn (a .b) (a .n) (a .e)) (a .image .now) (a .b) (a .q) (served (s .pre .0 .card .sized) (omega arith)) (look-same (a .b) (a .n) (a .e) (a .image .now)) _ (c .before .before .block-start .ensures) (w .left) (omega (arith, c .before .before .before .if1 .left))) v) (c .before .if2 .came)
+    c .look2 .ensures ∙ ⊎-elim (λ w. head-inside (lookIn (a .b) (a .n) (a .e)) (a .image .now) (a .b) (a .q)
+    (served (s .pre .0 .card .sized) (omega arith)) (look-same (a .b) (a .n) (a .e) (a .image .now)) _ (c .before .before .block-start .ensures) _
+    (w .0 .taken) (w .1 .taken) (told-block _ _ (sym (w .2 .ensures) ∙ w .4 .given .1)))
+    (λ v. ⊎-elim (λ w. head-border (lookIn (a .b) (a .n) (a .e)) (a .image .now) (a .b) (a .q) (served (s .pre .0 .card .sized) (omega arith))
+    (look-same (a .b) (a .n) (a .e) (a .image .now)) _ (c .before .before .block-start .ensures) (w .0 .taken) (w .1 .left))
+    (λ w. head-first (lookIn (a .b) (a .n) (a .e)) (a .image .now) (a .b) (a .q) (served (s .pre .0 .card .sized) (omega arith))
+    (look-same (a .b) (a .n) (a .e) (a .image .now)) _ (c .before .before .block-start .ensures) (w .left)
+    (omega (arith, c .before .before .before .if1 .left))) v) (c .before .if2 .came)
 
 pub first-head-spec : {M : Type 1} → statement M
 first-head-spec =

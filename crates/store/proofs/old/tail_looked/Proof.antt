@@ -35,7 +35,10 @@ returns : tie.Need-returns Inv-loop μ-loop
 returns c =
     let s = c .before .before .before .before .before .before in
     let a = s .args in
-    tail-lost (lookIn (a .b) (a .n) (a .e)) (a .image .now) (a .b) _ (c .before .before .before .before .loop .p) (served (s .pre .0 .card .sized) (omega (arith, c .before .before .before .loop-test .taken, s .pre .0 .most))) (λ r. look-same (a .b) (a .n) (a .e) (a .image .now) r (c .before .before .before .before .loop .p)) (c .before .before .before .loop-test .taken) (told-lost _ (sym (c .before .before .look .ensures) ∙ c .enum-told2 .given .1)) ∙ sym (c .before .before .before .before .loop .inv)
+    tail-lost (lookIn (a .b) (a .n) (a .e)) (a .image .now) (a .b) _ (c .before .before .before .before .loop .p)
+    (served (s .pre .0 .card .sized) (omega (arith, c .before .before .before .loop-test .taken, s .pre .0 .most)))
+    (λ r. look-same (a .b) (a .n) (a .e) (a .image .now) r (c .before .before .before .before .loop .p)) (c .before .before .before .loop-test .taken)
+    (told-lost _ (sym (c .before .before .look .ensures) ∙ c .enum-told2 .given .1)) ∙ sym (c .before .before .before .before .loop .inv)
 
 index-at-requires : tie.Need-index-at-requires Inv-loop μ-loop
 index-at-requires c κs =
@@ -45,12 +48,21 @@ index-at-requires c κs =
 offset-at-requires : tie.Need-offset-at-requires Inv-loop μ-loop
 offset-at-requires c κs =
     let s = c .before .before .before .before .before .before .before in
-    record { served = served (s .pre .0 .card .sized) (omega (arith, c .before .before .before .before .loop-test .taken, s .pre .0 .most)); index = c .index-at .ensures }
+    record {
+      served = served (s .pre .0 .card .sized)
+          (omega (arith, c .before .before .before .before .loop-test .taken, s .pre .0 .most));
+      index = c .index-at .ensures;
+    }
 
 sub-p : tie.Need-sub-p Inv-loop μ-loop
 sub-p c =
     let s = c .before .before .before .before .before .before .before .before in
-    omega (arith, c .offset-at .ensures, offset-inside (s .args .b) (c .before .before .before .before .before .before .loop .p) (index-in (served (s .pre .0 .card .sized) (omega (arith, c .before .before .before .before .before .loop-test .taken, s .pre .0 .most)))))
+    omega (
+      arith,
+      c .offset-at .ensures,
+      offset-inside (s .args .b) (c .before .before .before .before .before .before .loop .p)
+          (index-in (served (s .pre .0 .card .sized) (omega (arith, c .before .before .before .before .before .loop-test .taken, s .pre .0 .most)))),
+    )
 
 add-p : tie.Need-add-p Inv-loop μ-loop
 add-p c =
@@ -60,13 +72,27 @@ add-p c =
 loop-less : tie.Need-loop-less Inv-loop μ-loop
 loop-less c =
     let s = c .before .before .before .before .before .before .before .before in
-    omega (arith, c .before .before .before .before .before .loop-test .taken, c .offset-at .ensures, offset-inside (s .args .b) (c .before .before .before .before .before .before .loop .p) (index-in (served (s .pre .0 .card .sized) (omega (arith, c .before .before .before .before .before .loop-test .taken, s .pre .0 .most)))))
+    omega (
+      arith,
+      c .before .before .before .before .before .loop-test .taken,
+      c .offset-at .ensures,
+      offset-inside (s .args .b)
+          (c .before .before .before .before .before .before .loop .p) (index-in
+          (served (s .pre .0 .card .sized) (omega (arith, c .before .before .before .before .before .loop-test .taken, s .pre .0 .most)))),
+    )
 
 loop-again : tie.Need-loop-again Inv-loop μ-loop
 loop-again c =
     let s = c .before .before .before .before .before .before .before .before in
     let a = s .args in
-    c .before .before .before .before .before .before .loop .inv ∙ tail-turn (lookIn (a .b) (a .n) (a .e)) (a .image .now) (a .b) _ (c .before .before .before .before .before .before .loop .p) (served (s .pre .0 .card .sized) (omega (arith, c .before .before .before .before .before .loop-test .taken, s .pre .0 .most))) (λ r. look-same (a .b) (a .n) (a .e) (a .image .now) r (c .before .before .before .before .before .before .loop .p)) (c .before .before .before .before .before .loop-test .taken) _ _ (told-block _ _ (sym (c .before .before .before .before .look .ensures) ∙ c .before .before .enum-told .given .1)) (ap (λ (o : ℕ). c .before .before .before .before .before .before .loop .p + (a .b - o)) (c .offset-at .ensures)) (omega (arith, c .before .before .before .before .before .loop-test .taken, s .pre .0 .most, s .pre .0 .card .high))
+    c .before .before .before .before .before .before .loop .inv ∙ tail-turn (lookIn (a .b) (a .n) (a .e)) (a .image .now) (a .b) _
+    (c .before .before .before .before .before .before .loop .p) (served (s .pre .0 .card .sized)
+    (omega (arith, c .before .before .before .before .before .loop-test .taken, s .pre .0 .most)))
+    (λ r. look-same (a .b) (a .n) (a .e) (a .image .now) r (c .before .before .before .before .before .before .loop .p))
+    (c .before .before .before .before .before .loop-test .taken) _ _ (told-block _ _
+    (sym (c .before .before .before .before .look .ensures) ∙ c .before .before .enum-told .given .1))
+    (ap (λ (o : ℕ). c .before .before .before .before .before .before .loop .p + (a .b - o)) (c .offset-at .ensures))
+    (omega (arith, c .before .before .before .before .before .loop-test .taken, s .pre .0 .most, s .pre .0 .card .high))
 
 returns-2 : tie.Need-returns-2 Inv-loop μ-loop
 returns-2 c =
