@@ -12,6 +12,7 @@ use Rattle.layout.specs.Layout.{pointers, capacity, start, indexAt, offsetAt}
 use Rattle.card.specs.Blocks.{pointer}
 use Rattle.device.specs.Device.{stored, wiped}
 use Rattle.ctz.specs.Lookup.{walk, walkTo}
+use Rattle.ctz.specs.declared.Found.the-variants.{At}
 use Rattle.files.specs.declared.Entry.{Entry}
 use Rattle.grow.specs.Supply.{Took, Block, None}
 use Rattle.grow.specs.Grow.{part, pointersOf, linkOf, spoils, growOf}
@@ -49,3 +50,20 @@ wrote : (writes 1 2 20 (5 ∷ []) .answer ≡ Written 2 21) × (block 2 (writes 
     × (writes 6 2 20 (5 ∷ []) .answer ≡ Corrupt) × (writes 6 2 20 (5 ∷ []) .image ≡ card)
 unfolding writes block putOf wanted starts looked firstHead writeOf grownOf filledOf fronted tailed growOf spoils linkOf pointersOf part wiped stored walkTo walk pointer wordAt bytes32 pointers capacity start indexAt offsetAt trailingZeros leadingZeros
 wrote = (refl, refl, refl, refl, refl, refl, refl, refl, refl, refl, refl, refl, refl)
+
+-- the first write to an empty file
+fresh : ℕ → List ℕ → WriteOut ℕ
+fresh pos src =
+    putOf (lookIn 16 6 (record { number = 4; size = 0; head = 4294967295 })) (λ (v : ℕ). 6 - v) rising (0 ∷ 0 ∷ 0 ∷ 0 ∷ 0 ∷ 2 ∷ []) 16 6
+    (jobOf (record { number = 4; size = 0; head = 4294967295 }) pos src) 2 card
+
+-- Written from a block of its own on, also past a gap.
+began : (fresh 0 (5 ∷ []) .answer ≡ Written 2 1) × (block 2 (fresh 0 (5 ∷ [])) ≡ 5 ∷ replicate 15 255)
+    × (fresh 2 (5 ∷ []) .answer ≡ Written 2 3) × (block 2 (fresh 2 (5 ∷ [])) ≡ 0 ∷ 0 ∷ 5 ∷ replicate 13 255)
+unfolding fresh block putOf wanted starts looked firstHead writeOf grownOf filledOf fronted tailed growOf spoils linkOf pointersOf part wiped stored walkTo walk pointer wordAt bytes32 pointers capacity start indexAt offsetAt trailingZeros leadingZeros
+began = (refl, refl, refl, refl)
+
+-- Shrunk to 17 bytes the last byte is the first of block 1, to 16 the last of block 0, to 1 its first: the block that becomes the head.
+heads : (walkTo card 16 6 1 20 16 ≡ At 1 4 0) × (walkTo card 16 6 1 20 15 ≡ At 0 15 1) × (walkTo card 16 6 1 20 0 ≡ At 0 0 1)
+unfolding walkTo walk pointer wordAt pointers capacity start indexAt offsetAt trailingZeros leadingZeros
+heads = (refl, refl, refl)
