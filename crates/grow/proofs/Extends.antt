@@ -6,12 +6,16 @@ use native.Mathlib.Omega.{arith}
 use lib.ListN.{length}
 use Rattle.files.specs.declared.Table.{Table}
 use Rattle.window.specs.declared.Lookahead.{Lookahead}
+use Rattle.window.specs.declared.Got.the-variants as got
+use Rattle.window.specs.declared.Taken.{Taken}
 use Rattle.window.specs.declared.Answer.the-variants as answer
 use Rattle.window.specs.declared.Allocated.{Allocated}
 use Rattle.window.specs.Value.{Valid}
+use Rattle.window.specs.Search.{takeOf}
 use Rattle.window.specs.Allocate.{allocOf}
 use Rattle.alloc.specs.Visits.{seenIn}
 use Rattle.alloc.specs.Allocate.{Ready}
+use Rattle.alloc.proofs.Turning.{allocating, answers-block}
 use Rattle.grow.specs.declared.Growth.{Growth}
 use Rattle.grow.specs.declared.Growth.the-variants.{Full, Damaged}
 use Rattle.grow.specs.declared.Grew.{Grew}
@@ -51,6 +55,11 @@ module _ {B N l : ℕ} {health : List ℕ} {t : Table} {w₀ : Lookahead} {s : �
   unfolding extendIn
   rest-start head =
       record { long = refl; valid = x .ready .window; tries = suc (w₀ .ckpoint); left = omega arith; same = refl }
+
+  -- the window holds a block: the allocation answers it
+  pub held : {r : Taken} → r ≡ takeOf w₀ N → {k : ℕ} → r .answer ≡ got.Block k
+      → record { answer = answer.Block k; window = r .window } ≡ allocOf N l (seenIn B N img₀ t) w₀
+  held p e = answers-block N l (seenIn B N img₀ t) w₀ (allocating N l (seenIn B N img₀ t) w₀ (x .ready .window)) p e
 
   module _ {head : ℕ} {w : Lookahead} {img : List ℕ} (r : Rest B N l health t w₀ head s img₀ w img) where
     -- an allocation may be asked

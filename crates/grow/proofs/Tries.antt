@@ -4,10 +4,13 @@ use mathlib.Core.Bool.{Bool, true, false}
 use mathlib.Core.List.{List}
 use Prim.Native.Nat.{ℕ, suc}
 use native.Mathlib.Omega.{arith}
+use lib.ListN.{getD}
+use borrow.Author.Tests.{ne-eqb}
 use Rattle.device.specs.declared.Erased.{Erased}
 use Rattle.device.specs.declared.Erased.the-variants.{Wiped, Kept}
 use Rattle.device.specs.Device.{wiped, refusesErase, eraseOf, EraseGives}
 use Rattle.device.proofs.Steps.{told-wiped, told-kept}
+use Rattle.window.proofs.Cases.{no-both}
 use Rattle.grow.specs.declared.Growth.{Growth}
 use Rattle.grow.specs.declared.Linked.{Linked}
 use Rattle.grow.specs.declared.Linked.the-variants.{Done, Spoiled}
@@ -15,6 +18,7 @@ use Rattle.grow.specs.Supply.{Took, Block}
 use Rattle.grow.specs.Grow.{grow-out, linkOf, spoils, growOf}
 use Rattle.grow.specs.Attempt.{LinkOut, LinkGives, attemptOf, tryOf}
 use Rattle.grow.proofs.Links.{link-rest}
+use Rattle.grow.proofs.Spoils.{spoils-stored}
 use Rattle.grow.proofs.Turns.{grow-kept, grow-spoiled, grow-linked}
 
 module _ (health : List ℕ) (B N k head s : ℕ) (img : List ℕ) where
@@ -61,6 +65,16 @@ done-spoiled {o} {img} {a} e d =
     let p : Done a ≡ Spoiled = sym (ap (λ (x : LinkOut). x .answer) e) ∙ d in
     let z : _≡_ {A = ℕ} 0 1 = cc in
     omega arith
+
+-- a good block refuses nothing
+pub good-takes : (health : List ℕ) (B N k head s : ℕ) (img : List ℕ) {r : Linked} {img′ : List ℕ} → getD health k 0 ≡ 0
+    → LinkGives (tryOf health B N k head s img) r img′ → r ≡ Spoiled → ⊥
+good-takes health B N k head s img z g d = go (try-view health B N k head s img) (sym (g .answer) ∙ d)
+  where
+    go : TryView health B N k head s img (tryOf health B N k head s img) → tryOf health B N k head s img .answer ≡ Spoiled → ⊥
+    go (kept f q) d = no-both _ f (ne-eqb (getD health k 0) 1 (λ o. omega (arith, z, o)))
+    go (spoiled f p q) d = no-both _ p (spoils-stored health N k head s (ne-eqb (getD health k 0) 2 (λ o. omega (arith, z, o))))
+    go (linked f p q) d = done-spoiled q d
 
 module _ {W : Type 0} (alloc : W → List ℕ → Took W) (m : ℕ) (w w′ : W) (health : List ℕ) (B N head s : ℕ) (img : List ℕ)
     (k : ℕ) (e : alloc w img ≡ Block k w′) {r : Linked} {img′ : List ℕ} (g : LinkGives (tryOf health B N k head s img) r img′) where

@@ -4,6 +4,7 @@ use device::Programmed;
 use files::Table;
 use layout::Geometry;
 use window::Answer;
+use window::Got;
 use window::Lookahead;
 ghost use mathlib.Core.Path.{_≡_};
 ghost use Prim.Native.Nat.{_*_, _≤_};
@@ -126,8 +127,8 @@ fn try_block(
     }
 }
 
-// One growth behind the tests: blocks are allocated until one takes the erase and the first program.
-pub fn extend_in(
+// A growth with the files at hand: blocks are allocated until one takes the erase and the first program.
+fn extend_scan(
     b: u32,
     n: u32,
     l: u32,
@@ -183,6 +184,67 @@ pub fn extend_in(
     }
 }
 
+// The same: the table is copied for this call, so only where it is needed.
+fn extend_rest(
+    b: u32,
+    n: u32,
+    l: u32,
+    image: &mut [u8],
+    health: &[u8],
+    t: Table,
+    w: Lookahead,
+    head: u32,
+    size: u32,
+) -> Grew
+    requires { ⌜ Extending b n l (now image) (now health) t w size ⌝ }
+    ensures { λ r. ⌜ GrewGives
+        (extendIn b n l (now (health .entry)) t w head size (now (image .entry)))
+        r (now (image .exit)) ⌝ }
+{
+    extend_scan(b, n, l, image, health, t, w, head, size)
+}
+
+// One growth behind the tests: a good block that the window holds is taken at once, else blocks are allocated.
+pub fn extend_in(
+    b: u32,
+    n: u32,
+    l: u32,
+    image: &mut [u8],
+    health: &[u8],
+    t: Table,
+    w: Lookahead,
+    head: u32,
+    size: u32,
+) -> Grew
+    requires { ⌜ Extending b n l (now image) (now health) t w size ⌝ }
+    ensures { λ r. ⌜ GrewGives
+        (extendIn b n l (now (health .entry)) t w head size (now (image .entry)))
+        r (now (image .exit)) ⌝ }
+{
+    let taken = window::take(w, n);
+    let got = taken.answer;
+    let window = taken.window;
+    match got {
+        Got::Block(k) => {
+            if health[k as usize] != 0 {
+                return extend_rest(b, n, l, image, health, t, w, head, size);
+            }
+            let linked = try_block(image, health, b, n, k, head, size);
+            match linked {
+                Linked::Done(growth) => Grew {
+                    answer: growth,
+                    window: window,
+                },
+                Linked::Spoiled => Grew {
+                    answer: Growth::Refused,
+                    window: window,
+                },
+            }
+        }
+        Got::Empty => extend_rest(b, n, l, image, health, t, w, head, size),
+    }
+}
+
 // Whether a growth is not refused: geometry and slices, L, window and table, size.
 fn valid_extend(
     g: Geometry,
@@ -230,7 +292,7 @@ pub fn ctz_extend(
         r (now (image .exit)) ⌝ }
 {
     if valid_extend(g, l, image.len(), health, t, w, size) {
-        return extend_in(
+        return extend_scan(
             g.block_size,
             g.block_count,
             l,

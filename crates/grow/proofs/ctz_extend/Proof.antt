@@ -9,8 +9,8 @@ use Rattle.grow.proofs.ctz_extend.Tie as tie
 valid-extend-requires : tie.Need-valid-extend-requires
 valid-extend-requires c κs = search needs
 
-extend-in-requires : tie.Need-extend-in-requires
-extend-in-requires c κs =
+extend-scan-requires : tie.Need-extend-scan-requires
+extend-scan-requires c κs =
     extending (sym (c .before .before .valid-extend .ensures) ∙ c .before .if1 .taken)
 
 same-length : tie.Need-same-length
@@ -18,7 +18,7 @@ same-length c = search needs
 
 returns : tie.Need-returns
 returns c =
-    rw (extend-tested _ _ _ _ _ _ _ _ _ (sym (c .before .before .before .before .before .valid-extend .ensures) ∙ c .before .before .before .before .if1 .taken)) (c .before .before .extend-in .ensures)
+    rw (extend-tested _ _ _ _ _ _ _ _ _ (sym (c .before .before .before .before .before .valid-extend .ensures) ∙ c .before .before .before .before .if1 .taken)) (c .before .before .extend-scan .ensures)
 
 returns-2 : tie.Need-returns-2
 returns-2 c =
@@ -26,4 +26,4 @@ returns-2 c =
 
 pub ctz-extend-spec : {M : Type 1} → statement M
 ctz-extend-spec =
-    tie.close (tie.spec valid-extend-requires extend-in-requires same-length returns returns-2)
+    tie.close (tie.spec valid-extend-requires extend-scan-requires same-length returns returns-2)
