@@ -2,6 +2,7 @@
 pub mod Room
 pub mod Walked
 pub mod Lookups
+pub mod Through
 pub mod Counts
 pub mod Steps
 pub mod Visiting
