@@ -7,3 +7,4 @@ pub mod Counts
 pub mod Steps
 pub mod Visiting
 mod Examples
+pub mod Runs

@@ -50,7 +50,7 @@ module _ (B N : ℕ) (image : List ℕ) (head size p : ℕ) where
 -- ---- what an answer tells
 
 -- a block that is handed back was compared with N, and the offset is the one given
-tells : {ptr : ℕ → ℕ → ℕ} {N off tgt cur k n k′ off′ h : ℕ} {r : Found} → Trail ptr N off tgt cur k n r → r ≡ At k′ off′ h → (k′ < N) × (off′ ≡ off)
+pub tells : {ptr : ℕ → ℕ → ℕ} {N off tgt cur k n k′ off′ h : ℕ} {r : Found} → Trail ptr N off tgt cur k n r → r ≡ At k′ off′ h → (k′ < N) × (off′ ≡ off)
 tells lost e = let z : _≡_ {A = ℕ} 0 1 = cc in absurd (omega arith)
 tells {off = off} {k = k} {k′ = k′} {off′ = off′} (here b l) e =
     let same : k ≡ k′ = cc in
@@ -59,7 +59,7 @@ tells {off = off} {k = k} {k′ = k′} {off′ = off′} (here b l) e =
 tells (onward b l rest) e = tells rest e
 
 -- the walk refuses nothing
-answers : {ptr : ℕ → ℕ → ℕ} {N off tgt cur k n : ℕ} {r : Found} → Trail ptr N off tgt cur k n r → r ≡ Refused → ⊥
+pub answers : {ptr : ℕ → ℕ → ℕ} {N off tgt cur k n : ℕ} {r : Found} → Trail ptr N off tgt cur k n r → r ≡ Refused → ⊥
 answers lost e = let z : _≡_ {A = ℕ} 0 1 = cc in omega arith
 answers (here b l) e = let z : _≡_ {A = ℕ} 0 1 = cc in omega arith
 answers (onward b l rest) e = answers rest e

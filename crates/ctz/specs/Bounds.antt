@@ -1,5 +1,5 @@
 -- What the inner functions ask of their callers, as named bounds.
-use Prim.Native.Nat.{ℕ, _*_, _≤_, _<_}
+use Prim.Native.Nat.{ℕ, suc, _+_, _*_, _≤_, _<_}
 use Rattle.layout.specs.Layout.{pointers}
 use Rattle.card.specs.Card.{Card}
 
@@ -13,3 +13,10 @@ pub record Sought (B N size p len : ℕ) : Type 0 where
   pub card : Card B N len
   pub most : size ≤ 2147483647
   pub below : p < size
+
+-- A run of indexes of a list that can be walked, with room for their blocks.
+pub record RunAsked (B N top first count len room : ℕ) : Type 0 where
+  pub walks : Walks B N top len
+  pub inside : first + count ≤ suc top
+  pub fits : count ≤ room
+  pub few : room ≤ 1024

@@ -3,3 +3,4 @@ pub mod Lists
 pub mod Lookup
 pub mod Visits
 pub mod Bounds
+pub mod Runs

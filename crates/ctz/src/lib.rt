@@ -1,4 +1,5 @@
 // Block lists: lookup of a position, and the visit of a list's blocks.
+pub mod run;
 pub mod visit;
 
 use layout::Geometry;

@@ -1,0 +1,29 @@
+-- The blocks of a run: indexes of one list that stand together, each with the block that its lookup finds.
+use mathlib.Core.Path.{_≡_}
+use mathlib.Core.Bool.{Bool, true, false}
+use mathlib.Core.List.{List}
+use Prim.Native.Nat.{ℕ, suc, _+_, _<_}
+use lib.ListN.{length, getD}
+use Rattle.ctz.specs.Lookup.{walk}
+use Rattle.ctz.specs.declared.Found.{Found}
+use Rattle.ctz.specs.declared.Found.the-variants.{At, Damaged, Refused}
+
+-- the lookup of index i, in the list with that head at index top
+abbrev pub seek : (ℕ → ℕ → ℕ) → ℕ → ℕ → ℕ → ℕ → Found
+seek ptr N head top i = walk (suc top) ptr N 0 i top head 0
+
+-- the block that a lookup hands over; the null block where it hands over none
+abbrev pub numberOf : Found → ℕ
+numberOf (At k off hops) = k
+numberOf Damaged = 4294967295
+numberOf Refused = 4294967295
+
+-- that lookup finds block k
+abbrev pub Finds : (ℕ → ℕ → ℕ) → ℕ → ℕ → ℕ → ℕ → ℕ → Type 0
+Finds ptr N head top i k = (h : ℕ) × (seek ptr N head top i ≡ At k 0 h)
+
+-- A run of `count` indexes from `first` on: all are found, and `blocks` begins with their blocks; or some lookup meets -84.
+pub record RunGives (ptr : ℕ → ℕ → ℕ) (N head top first count room : ℕ) (whole : Bool) (blocks : List ℕ) : Type 0 where
+  pub long : length blocks ≡ room
+  pub found : whole ≡ true → (j : ℕ) → j < count → Finds ptr N head top (first + j) (getD blocks j 0)
+  pub lost : whole ≡ false → (j : ℕ) × ((j < count) × (seek ptr N head top (first + j) ≡ Damaged))
