@@ -6,5 +6,5 @@ pub mod Through
 pub mod Counts
 pub mod Steps
 pub mod Visiting
-mod Examples
 pub mod Runs
+mod Examples

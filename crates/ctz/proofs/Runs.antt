@@ -1,25 +1,30 @@
--- A run found from its last index down, index by index. Assumes nothing.
-use mathlib.Core.Path.{_≡_, refl, sym, ap, _∙_, subst}
+-- A run found from its last index down: each block by one pointer of a block found before, or by a walk. Assumes nothing.
+use mathlib.Core.Path.{_≡_, refl, sym, _∙_}
 use mathlib.Core.Bool.{true, false}
 use mathlib.Core.Logic.{⊎-elim}
 use mathlib.Core.List.{List}
-use Prim.Native.Nat.{ℕ, suc, _+_, _≤_, _<_}
+use Prim.Native.Nat.{ℕ, suc, _+_, _^_, _≤_, _<_}
 use native.Mathlib.Nat.{eq-or-lt-of-le}
 use native.Mathlib.Omega.{arith}
 use lib.ListN.{length, getD, set}
+use lib.Pow.{pow-pos}
 use lib.Seq.{getD-set-same, getD-set-other}
-use Rattle.ctz.specs.Lookup.{walk}
-use Rattle.ctz.specs.Runs.{seek, numberOf, Finds, RunGives}
+use Rattle.hops.specs.Walk.{ctz}
+use Rattle.hops.proofs.Through.{pick-last}
+use Rattle.card.specs.Blocks.{PointerAsked}
+use Rattle.ctz.specs.Runs.{seek, numberOf, Finds, Leads, Known, RunKnown, RunGives}
 use Rattle.ctz.specs.declared.Found.{Found}
 use Rattle.ctz.specs.declared.Found.the-variants.{At, Damaged, Refused}
-use Rattle.ctz.proofs.Walked.{trail}
+use Rattle.ctz.proofs.Room.{asked}
+use Rattle.ctz.proofs.Walked.{trail, pick-stored}
+use Rattle.ctz.proofs.Through.{through-at, through-lost}
 use Rattle.ctz.proofs.Lookups.{tells, answers}
 
 -- ---- what the number of a lookup tells
 
 module _ (ptr : ℕ → ℕ → ℕ) (N head top i k : ℕ) where
   -- a number below N is the block's
-  pub number-found : k < N → N ≤ 65536 → k ≡ numberOf (seek ptr N head top i) → Finds ptr N head top i k
+  number-found : k < N → N ≤ 65536 → k ≡ numberOf (seek ptr N head top i) → Finds ptr N head top i k
   number-found l s e = go (seek ptr N head top i) refl e
     where
       go : (w : Found) → seek ptr N head top i ≡ w → k ≡ numberOf w → Finds ptr N head top i k
@@ -30,7 +35,7 @@ module _ (ptr : ℕ → ℕ → ℕ) (N head top i k : ℕ) where
       go Refused q e = absurd (omega arith)
 
   -- any other is that of no block
-  pub number-lost : N ≤ k → k ≡ numberOf (seek ptr N head top i) → seek ptr N head top i ≡ Damaged
+  number-lost : N ≤ k → k ≡ numberOf (seek ptr N head top i) → seek ptr N head top i ≡ Damaged
   number-lost l e = go (seek ptr N head top i) refl e
     where
       go : (w : Found) → seek ptr N head top i ≡ w → k ≡ numberOf w → seek ptr N head top i ≡ Damaged
@@ -38,11 +43,42 @@ module _ (ptr : ℕ → ℕ → ℕ) (N head top i k : ℕ) where
       go Damaged q e = q
       go Refused q e = absurd (answers (trail ptr N 0 i (suc top) top head 0) q)
 
--- ---- the run from index first + j on
+  -- so a walk's number leads to the index
+  pub number-leads : N ≤ 65536 → k ≡ numberOf (seek ptr N head top i) → Leads ptr N head top i k
+  number-leads s e = record { found = λ l. number-found l s e; lost = λ l. number-lost l e }
 
--- the blocks of the indexes from first + j on are known
-abbrev pub Known : (ℕ → ℕ → ℕ) → ℕ → ℕ → ℕ → ℕ → ℕ → List ℕ → ℕ → Type 0
-Known ptr N head top first count blocks j = (m : ℕ) → j ≤ m → m < count → Finds ptr N head top (first + m) (getD blocks m 0)
+-- ---- one pointer instead of a walk
+
+-- Index first + j where the index d above it, which its lookup passes through last, lies in the run.
+module _ {ptr : ℕ → ℕ → ℕ} {B N head top first count j len : ℕ} {blocks : List ℕ} (s : RunKnown ptr B N head top first count j len blocks)
+    (d : ℕ) (some : 0 < first + j) (jump : d ≡ 2 ^ ctz (first + j)) (within : j + d < count) (small : top < 2 ^ 32) where
+  abbrev i : ℕ
+  i = first + j
+
+  place : first + (j + d) ≡ i + 2 ^ ctz i
+  place = omega arith
+
+  inside : i + 2 ^ ctz i ≤ top
+  inside = omega (arith, s .asked .inside)
+
+  block : Finds ptr N head top (i + 2 ^ ctz i) (getD blocks (j + d) 0)
+  block = rw (sym place) (s .known (j + d) (omega (arith, jump, pow-pos (ctz i))) within)
+
+  -- the block there has the pointers that index first + j has
+  pub near-asked : {x : ℕ} → x ≤ ctz (first + j) → PointerAsked B (getD blocks (j + d) 0) x len
+  near-asked l =
+      let stored = pick-stored (i + 2 ^ ctz i) i in
+      asked {i = i + 2 ^ ctz i} (s .asked .walks) (omega arith) inside (omega (arith, stored, pick-last i some (omega (arith, inside))))
+      (tells (trail ptr N 0 (i + 2 ^ ctz i) (suc top) top head 0) (block .1) .0)
+
+  -- and the last of those is what a walk takes
+  pub near-leads : Leads ptr N head top (first + j) (ptr (getD blocks (j + d) 0) (ctz (first + j)))
+  near-leads = record {
+    found = λ l. (suc (block .0), through-at ptr N head top i (getD blocks (j + d) 0) (block .0) small some inside (block .1) l);
+    lost = through-lost ptr N head top i (getD blocks (j + d) 0) (block .0) small some inside (block .1);
+  }
+
+-- ---- the run from index first + j on
 
 module _ (ptr : ℕ → ℕ → ℕ) (N head top first count : ℕ) (blocks : List ℕ) where
   pub known-none : Known ptr N head top first count blocks count

@@ -1,6 +1,6 @@
 -- The lookups of two indexes of one list: that of i passes through the block of i + 2 ^ ctz i, and pointer ctz i of it is its last hop.
 -- On damaged lists too. And the offset that a walk is to answer does not lead it. Assumes nothing.
-use mathlib.Core.Path.{_≡_, refl, sym, ap, _∙_}
+use mathlib.Core.Path.{_≡_, refl, ap, _∙_}
 use mathlib.Core.Bool.{Bool, true, false}
 use Prim.Native.Nat.{ℕ, zero, suc, _+_, _-_, _^_, _≤_, _<_}
 use native.Mathlib.Omega.{arith}
@@ -10,13 +10,10 @@ use Rattle.hops.specs.Walk.{ctz, pick}
 use Rattle.hops.proofs.Greedy.{pick-best}
 use Rattle.hops.proofs.Through.{pick-through, pick-last}
 use Rattle.ctz.specs.Lookup.{walk}
+use Rattle.ctz.specs.Runs.{seek}
 use Rattle.ctz.specs.declared.Found.{Found}
 use Rattle.ctz.specs.declared.Found.the-variants.{At, Damaged, Refused}
 use Rattle.ctz.proofs.Walked.{walk-damaged, walk-at, walk-hop, Trail, lost, here, onward, trail}
-
--- the lookup of index i, in the list with that head at index top
-abbrev pub seek : (ℕ → ℕ → ℕ) → ℕ → ℕ → ℕ → ℕ → Found
-seek ptr N head top i = walk (suc top) ptr N 0 i top head 0
 
 -- ---- the offset
 

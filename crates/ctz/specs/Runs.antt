@@ -2,8 +2,9 @@
 use mathlib.Core.Path.{_≡_}
 use mathlib.Core.Bool.{Bool, true, false}
 use mathlib.Core.List.{List}
-use Prim.Native.Nat.{ℕ, suc, _+_, _<_}
+use Prim.Native.Nat.{ℕ, suc, _+_, _≤_, _<_}
 use lib.ListN.{length, getD}
+use Rattle.ctz.specs.Bounds.{RunAsked}
 use Rattle.ctz.specs.Lookup.{walk}
 use Rattle.ctz.specs.declared.Found.{Found}
 use Rattle.ctz.specs.declared.Found.the-variants.{At, Damaged, Refused}
@@ -21,6 +22,21 @@ numberOf Refused = 4294967295
 -- that lookup finds block k
 abbrev pub Finds : (ℕ → ℕ → ℕ) → ℕ → ℕ → ℕ → ℕ → ℕ → Type 0
 Finds ptr N head top i k = (h : ℕ) × (seek ptr N head top i ≡ At k 0 h)
+
+-- What a number that was read for index i tells: below N it is the block that the lookup finds, else the lookup meets -84.
+pub record Leads (ptr : ℕ → ℕ → ℕ) (N head top i k : ℕ) : Type 0 where
+  pub found : k < N → Finds ptr N head top i k
+  pub lost : N ≤ k → seek ptr N head top i ≡ Damaged
+
+-- the blocks of the run's indexes from first + j on are known
+abbrev pub Known : (ℕ → ℕ → ℕ) → ℕ → ℕ → ℕ → ℕ → ℕ → List ℕ → ℕ → Type 0
+Known ptr N head top first count blocks j = (m : ℕ) → j ≤ m → m < count → Finds ptr N head top (first + m) (getD blocks m 0)
+
+-- A run whose indexes past first + j are known.
+pub record RunKnown (ptr : ℕ → ℕ → ℕ) (B N head top first count j len : ℕ) (blocks : List ℕ) : Type 0 where
+  pub asked : RunAsked B N top first count len (length blocks)
+  pub next : j < count
+  pub known : Known ptr N head top first count blocks (suc j)
 
 -- A run of `count` indexes from `first` on: all are found, and `blocks` begins with their blocks; or some lookup meets -84.
 pub record RunGives (ptr : ℕ → ℕ → ℕ) (N head top first count room : ℕ) (whole : Bool) (blocks : List ℕ) : Type 0 where

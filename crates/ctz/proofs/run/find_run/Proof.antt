@@ -1,12 +1,12 @@
 -- `ctz::run::find_run` meets its contract. The loop's invariant: the blocks of the indexes passed are known. Assumes nothing.
 use mathlib.Core.Path.{_≡_, refl}
-use Prim.Native.Nat.{_+_, _-_, _≤_, _<_}
+use Prim.Native.Nat.{_-_, _≤_}
 use native.Mathlib.Omega.{arith}
 use borrow.Author.Needs.{needs}
 use lib.ListN.{length, length-set}
-use denote.Ref.{now}
 use Rattle.card.specs.Blocks.{pointer}
-use Rattle.ctz.proofs.Runs.{Known, known-none, known-more, known-all, run-lost, number-found, number-lost}
+use Rattle.ctz.specs.Runs.{Known}
+use Rattle.ctz.proofs.Runs.{known-none, known-more, known-all, run-lost}
 use Rattle.ctz.proofs.run.find_run.Statement.{statement}
 use Rattle.ctz.proofs.run.find_run.Tie as tie
 
@@ -23,16 +23,20 @@ loop-holds c = (omega arith, refl, known-none _ _ _ _ _ _ (c .before .args .bloc
 sub-j : tie.Need-sub-j Inv-loop μ-loop
 sub-j c = search needs
 
-add-walked : tie.Need-add-walked Inv-loop μ-loop
-add-walked c = search needs
-
-walked-requires : tie.Need-walked-requires Inv-loop μ-loop
-walked-requires c κs = c .before .before .before .pre .walks
+led-requires : tie.Need-led-requires Inv-loop μ-loop
+led-requires c κs =
+    let l = c .before .before .loop in
+    let s = c .before .before .before .before in
+    record {
+      asked = rw (l .inv .1) (s .pre);
+      next = omega (arith, l .inv .0);
+      known = λ m g h. l .inv .2 m (omega arith) h;
+    }
 
 returns : tie.Need-returns Inv-loop μ-loop
 returns c =
-    let l = c .before .before .before in
-    run-lost _ _ _ _ _ _ _ (l .loop .j - 1) (l .loop .inv .1) (omega (arith, l .loop .inv .0)) (number-lost _ _ _ _ _ _ (c .if1 .taken) (c .before .walked .ensures))
+    let l = c .before .before .before .before .loop in
+    run-lost _ _ _ _ _ _ _ (l .j - 1) (l .inv .1) (omega (arith, l .inv .0)) (c .before .led .ensures .lost (omega arith))
 
 cast-blocks : tie.Need-cast-blocks Inv-loop μ-loop
 cast-blocks c = search needs
@@ -48,10 +52,13 @@ loop-less c = search needs
 
 loop-again : tie.Need-loop-again Inv-loop μ-loop
 loop-again c =
-    let l = c .before .before .before in
-    let s = l .before .before in
-    let k = number-found _ _ _ _ _ _ (c .if1 .left) (s .pre .walks .card .few) (c .before .walked .ensures) in
-    (omega (arith, l .loop .inv .0), simp length-set (l .loop .inv .1), known-more _ _ _ _ _ _ (l .loop .blocks) (l .loop .j) (l .loop .j - 1) (c .before .walked .result) (omega arith) (omega (arith, l .loop .inv .0, l .loop .inv .1, s .pre .fits)) (l .loop .inv .2) k)
+    let l = c .before .before .before .before .loop in
+    let s = c .before .before .before .before .before .before in (
+      omega (arith, l .inv .0),
+      simp length-set (l .inv .1),
+      known-more _ _ _ _ _ _ (l .blocks) (l .j) (l .j - 1) (c .before .led .result) (omega arith)
+          (omega (arith, l .inv .0, l .inv .1, s .pre .fits)) (l .inv .2) (c .before .led .ensures .found (omega arith)),
+    )
 
 returns-2 : tie.Need-returns-2 Inv-loop μ-loop
 returns-2 c = known-all _ _ _ _ _ _ _ (c .before .loop .j) (c .before .loop .inv .1) (search needs) (c .before .loop .inv .2)
@@ -64,8 +71,7 @@ find-run-spec =
     μ-loop
     loop-holds
     sub-j
-    add-walked
-    walked-requires
+    led-requires
     returns
     cast-blocks
     mul-blocks

@@ -1,5 +1,5 @@
 -- `ctz::run::walked` meets its contract, by the answer of the walk. Assumes nothing.
-use mathlib.Core.Path.{_≡_, sym, ap, _∙_}
+use mathlib.Core.Path.{sym, ap, _∙_}
 use borrow.Author.Needs.{needs}
 use Rattle.ctz.specs.Runs.{numberOf}
 use Rattle.ctz.proofs.run.walked.Statement.{statement}
