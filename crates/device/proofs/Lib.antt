@@ -3,3 +3,4 @@ pub mod Steps
 pub mod Bounds
 pub mod Frame
 pub mod Health
+pub mod Runs

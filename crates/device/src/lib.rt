@@ -1,11 +1,12 @@
 // The device: the image changes only by erasing or programming one block, and that block's health byte decides whether it is done.
 ghost use mathlib.Core.Path.{_≡_};
 ghost use Prim.Native.Nat.{_+_, _*_, _≤_, _<_};
+ghost use lib.Dec.{leb};
 ghost use lib.ListN.{length, take, drop, replicate};
 ghost use Rattle.span.specs.Words.{bytes32};
 ghost use Rattle.device.specs.Device.{refusesErase, refusesProgram, eraseOf, programOf, EraseGives, ProgramGives};
 ghost use Rattle.device.specs.Bounds.{Block, Room, Source};
-ghost use Rattle.device.specs.Health.{healthOk};
+ghost use Rattle.device.specs.Health.{eachValid, NoneAbove, healthOk};
 
 // What a block did with an erase.
 pub enum Erased {
@@ -19,22 +20,48 @@ pub enum Programmed {
     Refused,
 }
 
-// Whether there is one health byte for each of `n` blocks, and each is a valid one.
+// The first four runs of `q` bytes, ORed: none of those bytes is above it. A turn takes a byte of each run, which compiles to the faster loop.
+fn merged(health: &[u8], q: usize) -> u8
+    requires { ⌜ 4 * q ≤ length (now health) ⌝ }
+    ensures { λ r. ⌜ NoneAbove (now (health .entry)) 0 (4 * q) r ⌝ }
+{
+    let mut all: u8 = 0;
+    let mut i: usize = 0;
+    while i < q {
+        all = all | health[i] | health[q + i] | health[2 * q + i] | health[3 * q + i];
+        i += 1;
+    }
+    all
+}
+
+// The largest byte from `from` on: it is valid where all of them are.
+fn worst(health: &[u8], from: usize) -> u8
+    ensures { λ r. ⌜ leb r 2 ≡ eachValid (drop from (now (health .entry))) ⌝ }
+{
+    let mut most: u8 = 0;
+    let mut i = from;
+    while i < health.len() {
+        if most < health[i] {
+            most = health[i];
+        }
+        i += 1;
+    }
+    most
+}
+
+// Whether there is one health byte for each of `n` blocks, and each is a valid one. The OR settles it for all but the last three at most,
+// unless the card has both kinds of fault: then each byte is looked at.
 pub fn good_health(health: &[u8], n: u32) -> bool
     ensures { λ r. ⌜ r ≡ healthOk (now (health .entry)) n ⌝ }
 {
     if health.len() != n as usize {
         return false;
     }
-    let mut worst: u8 = 0;
-    let mut i: usize = 0;
-    while i < health.len() {
-        if worst < health[i] {
-            worst = health[i];
-        }
-        i += 1;
+    let q = health.len() / 4;
+    if merged(health, q) <= 2 {
+        return worst(health, 4 * q) <= 2;
     }
-    worst <= 2
+    worst(health, 0) <= 2
 }
 
 // Whether block `k` refuses an erase.
