@@ -17,19 +17,6 @@ fn time<T>(work: impl FnOnce() -> T) -> f64 {
     taken
 }
 
-/// The median time of some work; `prepare` makes what each run works on, untimed. The first run is not counted.
-pub fn alone<P, T>(
-    runs: usize,
-    mut prepare: impl FnMut() -> P,
-    mut work: impl FnMut(P) -> T,
-) -> f64 {
-    let one = |_| {
-        let prepared = prepare();
-        time(|| work(prepared))
-    };
-    median((0..=runs).map(one).skip(1).collect())
-}
-
 /// Times of two sides that run in turn; the first run of each is not counted.
 pub fn in_turn(
     runs: usize,
@@ -50,6 +37,12 @@ pub fn in_turn(
 pub fn once<P, T>(prepare: impl FnOnce() -> P, work: impl FnOnce(P) -> T) -> f64 {
     let prepared = prepare();
     time(|| work(prepared))
+}
+
+/// One run of a side, for `in_turn`, that does its work so many times; the time of one.
+pub fn repeated<T>(times: usize, mut work: impl FnMut() -> T) -> f64 {
+    let all = || (0..times).for_each(|_| drop(std::hint::black_box(work())));
+    time(all) / times as f64
 }
 
 /// A time as a person reads it.

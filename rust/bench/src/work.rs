@@ -19,6 +19,24 @@ pub fn geometry(block_size: u32, length: usize) -> Geometry {
     Geometry::new(block_size, (length / block_size as usize) as u32).expect("a card that is served")
 }
 
+/// The bytes that a block of a list gives to pointers.
+pub fn pointer_bytes(index: u32) -> usize {
+    match index {
+        0 => 0,
+        _ => 4 * (index.trailing_zeros() as usize + 1),
+    }
+}
+
+/// A card for a file of this length, with room to spare as far as cards go; and the length, less what a full card does not hold.
+pub fn sized(block_size: u32, length: usize) -> (Geometry, usize) {
+    let size = block_size as usize;
+    let needed = (length + length / 8).div_ceil(size);
+    let count = needed.min(65_536).min(16 * MIB / size);
+    let pointers: usize = (0..count as u32).map(pointer_bytes).sum();
+    let geometry = geometry(block_size, count * size);
+    (geometry, length.min(geometry.image_length() - pointers))
+}
+
 /// An image with file 1, and its table.
 pub fn written(geometry: Geometry, data: &[u8]) -> (Vec<u8>, Table) {
     let (mut image, health) = (geometry.blank_image(), geometry.good_health());
