@@ -53,13 +53,14 @@ impl Filled {
     fn writes(&self, runs: usize, plain: &Plain) -> (f64, f64) {
         let health = self.geometry.good_health();
         let image = RefCell::new(self.image.clone());
-        let ours = || write(self.geometry, &mut image.borrow_mut(), &health, &self.data);
-        let other = || plain.write(&mut image.borrow_mut(), &self.data);
+        let (data, all) = (&self.data, self.data.len());
+        let ours = || write(self.geometry, &mut image.borrow_mut(), &health, data, all);
+        let other = || plain.write(&mut image.borrow_mut(), data);
         let times = self.beside(runs, ours, other);
         other();
-        let mut read = vec![0; self.data.len()];
+        let mut read = vec![0; all];
         plain.read(&image.borrow(), &mut read);
-        assert!(read == self.data);
+        assert!(read == *data);
         ours();
         assert!(*image.borrow() == self.image);
         times

@@ -8,8 +8,8 @@ fn median(mut times: Vec<f64>) -> f64 {
     times[times.len() / 2]
 }
 
-/// The time of some work, in nanoseconds; what it makes is dropped afterwards.
-fn time<T>(work: impl FnOnce() -> T) -> f64 {
+/// The time of some work, in nanoseconds; what it makes is dropped afterwards. One run of a side, for `in_turn`.
+pub fn time<T>(work: impl FnOnce() -> T) -> f64 {
     let began = Instant::now();
     let made = std::hint::black_box(work());
     let taken = began.elapsed().as_nanos() as f64;
@@ -33,13 +33,13 @@ pub fn in_turn(
     (median(first), median(second))
 }
 
-/// One run of a side, for `in_turn`.
+/// The time of some work on what is prepared for it, untimed.
 pub fn once<P, T>(prepare: impl FnOnce() -> P, work: impl FnOnce(P) -> T) -> f64 {
     let prepared = prepare();
     time(|| work(prepared))
 }
 
-/// One run of a side, for `in_turn`, that does its work so many times; the time of one.
+/// The time of some work that is done so many times over: of one of them.
 pub fn repeated<T>(times: usize, mut work: impl FnMut() -> T) -> f64 {
     let all = || (0..times).for_each(|_| drop(std::hint::black_box(work())));
     time(all) / times as f64

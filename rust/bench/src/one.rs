@@ -10,7 +10,7 @@ pub fn make(call: &str, block_size: u32, length: usize) -> Result<(), String> {
     match call {
         "write" => {
             let (mut image, health) = (geometry.blank_image(), geometry.good_health());
-            write(geometry, &mut image, &health, &data);
+            write(geometry, &mut image, &health, &data, length);
         }
         "read" => {
             let (image, table) = written(geometry, &data);

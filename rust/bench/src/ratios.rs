@@ -1,8 +1,9 @@
 //! The library beside the Rust, and beside a plain copy.
 
-use crate::measure::{in_turn, once, shown};
+use crate::measure::{in_turn, once, shown, time};
 use crate::work::{bytes, geometry, written, MIB};
 use crate::writing::{appends, writes};
+use numbers::Random;
 use oracle::{File, Oracle};
 use tidmaruls::{Geometry, List, View};
 
@@ -37,7 +38,7 @@ fn reads(runs: usize, geometry: Geometry, data: &[u8]) {
     let (mut ours, mut theirs) = (vec![0; data.len()], vec![0; data.len()]);
     let times = in_turn(
         runs,
-        || once(|| (), |()| view.read(1, 0, &mut ours)),
+        || time(|| view.read(1, 0, &mut ours)),
         || {
             once(
                 || File::open(head, size, 0),
@@ -50,13 +51,8 @@ fn reads(runs: usize, geometry: Geometry, data: &[u8]) {
     row(&format!("{name}: lfs_file_flushedread"), times, Some(1.0));
     let times = in_turn(
         runs,
-        || once(|| (), |()| view.read(1, 0, &mut ours)),
-        || {
-            once(
-                || (),
-                |()| theirs.copy_from_slice(std::hint::black_box(data)),
-            )
-        },
+        || time(|| view.read(1, 0, &mut ours)),
+        || time(|| theirs.copy_from_slice(std::hint::black_box(data))),
     );
     row(&format!("{name}: copy_from_slice"), times, None);
 }
@@ -77,17 +73,20 @@ fn find_and_copy(oracle: &mut Oracle, list: List, position: u32, to: &mut [u8]) 
     }
 }
 
+/// The time of a read at each position.
+fn at_each(positions: &[u32], mut read: impl FnMut(u32) -> [u8; 64]) -> f64 {
+    let first = |&position| read(position)[0] as u64;
+    time(|| positions.iter().map(first).sum::<u64>())
+}
+
 /// Reads of 64 bytes at random positions.
 fn random_reads(runs: usize, geometry: Geometry, data: &[u8]) {
     let (image, table) = written(geometry, data);
     let view = View::new(geometry, &image, &table).expect("a card");
     let list = table.list(1).expect("written");
     let mut oracle = oracle(geometry, &image);
-    let mut word = 1_u64;
-    let next = |_| {
-        word = word.wrapping_mul(6_364_136_223_846_793_005).wrapping_add(1);
-        (word >> 33) as u32 % (data.len() as u32 - 64)
-    };
+    let mut random = Random::new(1);
+    let next = |_| random.below(data.len() as u32 - 64);
     let positions: Vec<u32> = (0..20_000).map(next).collect();
     let (mut ours, mut theirs) = ([0; 64], [0; 64]);
     let mut mine = |position| {
@@ -103,28 +102,8 @@ fn random_reads(runs: usize, geometry: Geometry, data: &[u8]) {
         .all(|&position| mine(position) == other(position)));
     let times = in_turn(
         runs,
-        || {
-            once(
-                || (),
-                |()| {
-                    positions
-                        .iter()
-                        .map(|&position| mine(position)[0] as u64)
-                        .sum::<u64>()
-                },
-            )
-        },
-        || {
-            once(
-                || (),
-                |()| {
-                    positions
-                        .iter()
-                        .map(|&position| other(position)[0] as u64)
-                        .sum::<u64>()
-                },
-            )
-        },
+        || at_each(&positions, &mut mine),
+        || at_each(&positions, &mut other),
     );
     let each = positions.len() as f64;
     let name = format!(

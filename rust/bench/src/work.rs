@@ -1,17 +1,13 @@
 //! Cards and bytes to work on.
 
+use numbers::Random;
 use tidmaruls::{Card, Geometry, Table};
 
 pub const MIB: usize = 1 << 20;
 
 /// A file's bytes: the same in every run, and not all alike.
 pub fn bytes(length: usize) -> Vec<u8> {
-    let mut word = 0x9E37_79B9_7F4A_7C15_u64;
-    let next = |_| {
-        word = word.wrapping_mul(6_364_136_223_846_793_005).wrapping_add(1);
-        (word >> 56) as u8
-    };
-    (0..length).map(next).collect()
+    Random::new(0).bytes(length)
 }
 
 /// A card of this many bytes.
@@ -40,26 +36,23 @@ pub fn sized(block_size: u32, length: usize) -> (Geometry, usize) {
 /// An image with file 1, and its table.
 pub fn written(geometry: Geometry, data: &[u8]) -> (Vec<u8>, Table) {
     let (mut image, health) = (geometry.blank_image(), geometry.good_health());
-    let mut card = Card::new(geometry, &mut image, &health).expect("a card");
-    card.create(1).expect("a free slot");
-    card.write(1, 0, data).expect("room for the file");
-    let table = *card.table();
+    let table = write(geometry, &mut image, &health, data, data.len());
     (image, table)
 }
 
-/// Writes file 1 into a blank card.
-pub fn write(geometry: Geometry, image: &mut [u8], health: &[u8], data: &[u8]) {
+/// Writes file 1 into a card without files, in pieces of this length, each at the end; the table then.
+pub fn write(
+    geometry: Geometry,
+    image: &mut [u8],
+    health: &[u8],
+    data: &[u8],
+    length: usize,
+) -> Table {
     let mut card = Card::new(geometry, image, health).expect("a card");
     card.create(1).expect("a free slot");
-    card.write(1, 0, data).expect("room for the file");
-}
-
-/// Writes file 1 into a blank card in pieces of 64 bytes, each at the end.
-pub fn append(geometry: Geometry, image: &mut [u8], health: &[u8], data: &[u8]) {
-    let mut card = Card::new(geometry, image, health).expect("a card");
-    card.create(1).expect("a free slot");
-    for (place, piece) in data.chunks(64).enumerate() {
-        card.write(1, 64 * place as u32, piece)
-            .expect("room for the file");
+    for (place, piece) in data.chunks(length).enumerate() {
+        let written = card.write(1, (place * length) as u32, piece);
+        written.expect("room for the file");
     }
+    *card.table()
 }

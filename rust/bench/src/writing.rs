@@ -2,7 +2,7 @@
 
 use crate::measure::{in_turn, once};
 use crate::ratios::row;
-use crate::work::{append, write};
+use crate::work::write;
 use oracle::{File, Oracle};
 use tidmaruls::Geometry;
 
@@ -35,49 +35,31 @@ fn holds(oracle: &mut Oracle, data: &[u8]) -> bool {
     oracle.read(&mut File::open(head, size, 0), &mut read) == size as i32 && read == data
 }
 
-/// A write into a fresh card.
-pub fn writes(runs: usize, geometry: Geometry, data: &[u8]) {
+/// Times of a file written into a fresh card in pieces of this length.
+fn times(runs: usize, geometry: Geometry, data: &[u8], piece: usize) -> (f64, f64) {
     let health = geometry.good_health();
     let blank = || Oracle::new(geometry.block_size(), geometry.block_count(), 64, 0);
-    assert!(holds(&mut grown(blank(), data, data.len()), data));
-    let times = in_turn(
+    assert!(holds(&mut grown(blank(), data, piece), data));
+    let ours = |mut image: Vec<u8>| (write(geometry, &mut image, &health, data, piece), image);
+    in_turn(
         runs,
-        || {
-            once(
-                || geometry.blank_image(),
-                |mut image| {
-                    write(geometry, &mut image, &health, data);
-                    image
-                },
-            )
-        },
-        || once(blank, |oracle| grown(oracle, data, data.len())),
-    );
+        || once(|| geometry.blank_image(), ours),
+        || once(blank, |oracle| grown(oracle, data, piece)),
+    )
+}
+
+/// A write into a fresh card.
+pub fn writes(runs: usize, geometry: Geometry, data: &[u8]) {
     let name = format!(
         "(c) write 4 MiB into a fresh card, B {}: lfs_ctz_extend",
         geometry.block_size()
     );
-    row(&name, times, Some(1.1));
+    row(&name, times(runs, geometry, data, data.len()), Some(1.1));
 }
 
 /// Appends of 64 bytes, most of which copy an incomplete block.
 pub fn appends(runs: usize, geometry: Geometry, data: &[u8]) {
-    let health = geometry.good_health();
-    let blank = || Oracle::new(geometry.block_size(), geometry.block_count(), 64, 0);
-    assert!(holds(&mut grown(blank(), data, 64), data));
-    let times = in_turn(
-        runs,
-        || {
-            once(
-                || geometry.blank_image(),
-                |mut image| {
-                    append(geometry, &mut image, &health, data);
-                    image
-                },
-            )
-        },
-        || once(blank, |oracle| grown(oracle, data, 64)),
-    );
+    let times = times(runs, geometry, data, 64);
     let each = (data.len() / 64) as f64;
     let name = format!(
         "(d) append 64 bytes, B {}, {} KiB card: lfs_ctz_extend",

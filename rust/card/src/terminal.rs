@@ -80,22 +80,14 @@ mod tests {
 
     #[test]
     fn bars() {
-        assert_eq!(
-            bar("reading", 0, 8),
-            "reading [.........................]   0%"
-        );
-        assert_eq!(
-            bar("reading", 4, 8),
-            "reading [############.............]  50%"
-        );
-        assert_eq!(
-            bar("reading", 9, 8),
-            "reading [#########################] 100%"
-        );
-        assert_eq!(
-            bar("reading", 0, 0),
-            "reading [#########################] 100%"
-        );
+        for (done, total, shown) in [
+            (0, 8, "[.........................]   0%"),
+            (4, 8, "[############.............]  50%"),
+            (9, 8, "[#########################] 100%"),
+            (0, 0, "[#########################] 100%"),
+        ] {
+            assert_eq!(bar("reading", done, total), format!("reading {shown}"));
+        }
     }
 
     #[test]

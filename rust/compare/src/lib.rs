@@ -1,4 +1,4 @@
-//! What the comparisons share: random numbers, positions at block borders, cards, plain models, the fixed list.
+//! What the comparisons share: positions at block borders, cards, plain models, the fixed list.
 
 pub mod cards;
 pub mod fixed;
@@ -9,9 +9,8 @@ pub mod layout;
 pub mod model;
 #[cfg(feature = "store")]
 pub mod plain;
-mod random;
 
-pub use random::Random;
+pub use numbers::Random;
 
 /// The line that a comparison prints where there is no oracle to compare with.
 #[cfg(not(oracle))]

@@ -55,7 +55,7 @@ mod with_oracle {
         if needed > good_unlisted(card) {
             return false;
         }
-        let data: Vec<u8> = (0..length).map(|_| random.word() as u8).collect();
+        let data = random.bytes(length as usize);
         let mut file = File::open(entry.head, entry.size, position);
         assert_eq!(oracle.write(&mut file, &data), length as i32);
         assert_eq!(oracle.flush(&mut file), 0);

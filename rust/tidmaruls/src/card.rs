@@ -1,5 +1,6 @@
 //! Files on a card, to read and to write.
 
+use crate::border::Lent;
 use crate::table::on_file;
 use crate::{ffi, Error, Geometry, Image, Table, View, Window};
 use std::fmt;
@@ -107,22 +108,7 @@ impl<'a> Card<'a> {
 
     /// Writes bytes at a position. A gap past the end becomes zeros; bytes past the data stay.
     pub fn write(&mut self, number: u32, position: u32, data: &[u8]) -> Result<(), Error> {
-        let told = unsafe {
-            ffi::tid_write(
-                self.geometry.crossing(),
-                self.window.lookahead(),
-                self.image.as_mut_ptr(),
-                self.image.len(),
-                self.health.as_ptr(),
-                self.health.len(),
-                self.window.to_raw(),
-                self.table.crossing(),
-                number,
-                position,
-                data.as_ptr(),
-                data.len(),
-            )
-        };
+        let told = self.lent().write(number, position, data);
         let length = data.len();
         match told.code {
             -27 => Err(Error::TooLarge { position, length }),
@@ -151,21 +137,20 @@ impl<'a> Card<'a> {
     /// # Ok::<(), tidmaruls::Error>(())
     /// ```
     pub fn truncate(&mut self, number: u32, size: u32) -> Result<(), Error> {
-        let told = unsafe {
-            ffi::tid_truncate(
-                self.geometry.crossing(),
-                self.window.lookahead(),
-                self.image.as_mut_ptr(),
-                self.image.len(),
-                self.health.as_ptr(),
-                self.health.len(),
-                self.window.to_raw(),
-                self.table.crossing(),
-                number,
-                size,
-            )
-        };
+        let told = self.lent().truncate(number, size);
         self.stored(told, number, Error::Size(size))
+    }
+
+    /// As a call that changes the image takes it.
+    fn lent(&mut self) -> Lent<'_> {
+        Lent {
+            geometry: self.geometry.crossing(),
+            lookahead: self.window.lookahead(),
+            image: self.image,
+            health: self.health,
+            window: self.window.crossing(),
+            table: self.table.crossing(),
+        }
     }
 
     /// Takes over the window and table that a call left.

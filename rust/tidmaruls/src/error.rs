@@ -94,92 +94,34 @@ impl Error {
 
 impl fmt::Display for Error {
     fn fmt(&self, to: &mut fmt::Formatter<'_>) -> fmt::Result {
+        macro_rules! say {
+            ($sentence:literal) => {
+                write!(to, $sentence)
+            };
+        }
         match *self {
-            Error::Geometry { block_size, block_count } => write!(
-                to,
-                "A card of {block_count} blocks of {block_size} bytes is not served: take blocks of 128 to 65536 bytes, 1 to 65536 of them, at most 16777216 bytes in all."
-            ),
-            Error::ImageLength { needed, given } => write!(
-                to,
-                "The image has {given} bytes, but the geometry needs {needed}: pass the whole image and nothing else."
-            ),
-            Error::HealthLength { needed, given } => write!(
-                to,
-                "The health has {given} bytes, but the card has {needed} blocks: pass one byte a block."
-            ),
-            Error::Health { block, value } => write!(
-                to,
-                "Block {block} has the health byte {value}: use 0 (good), 1 (refuses erase) or 2 (refuses program)."
-            ),
-            Error::Lookahead(lookahead) => write!(
-                to,
-                "A lookahead of {lookahead} bytes is not served: take 8 to 64, a multiple of 8."
-            ),
-            Error::Start { start, block_count } => write!(
-                to,
-                "The window cannot start at block {start}: the card has {block_count} blocks, so take a start below that."
-            ),
-            Error::Window => write!(
-                to,
-                "The window is none of this card: make a fresh one, or hand on the one that the last call left."
-            ),
-            Error::Table => write!(
-                to,
-                "These entries are no table: list at most {FILES} files, numbers rising up to {NUMBER_MAX}, sizes up to {FILE_MAX}, heads up to 65535, and the null head exactly where the size is 0."
-            ),
-            Error::FileNumber(number) => write!(
-                to,
-                "{number} is no file number: take one from 0 to {NUMBER_MAX}."
-            ),
-            Error::NoFile(number) => write!(
-                to,
-                "There is no file {number}: create it, or take a number that the table holds."
-            ),
-            Error::Exists(number) => write!(
-                to,
-                "File {number} is there already: write to it, or remove it first."
-            ),
-            Error::TableFull => write!(
-                to,
-                "The table holds {FILES} files and no more: remove one first."
-            ),
-            Error::Position(position) => write!(
-                to,
-                "{position} is no position: take one from 0 to {FILE_MAX}."
-            ),
-            Error::PastEnd { position, size } => write!(
-                to,
-                "Position {position} is past the end: the file has {size} bytes, so take a position below that."
-            ),
-            Error::Size(size) => write!(to, "{size} is no size: take one from 0 to {FILE_MAX}."),
-            Error::Seek => write!(
-                to,
-                "The seek leads to no position: stay from 0 to {FILE_MAX}."
-            ),
-            Error::TooLarge { position, length } => write!(
-                to,
-                "{length} bytes at position {position} end above the largest size, {FILE_MAX}: write less, or earlier in the file."
-            ),
-            Error::Buffer { given } => write!(
-                to,
-                "The saved table does not fit into {given} bytes: {SAVED_MAX} are enough for every table."
-            ),
-            Error::NoRoom => write!(
-                to,
-                "No block is left on the card: remove or shorten a file first."
-            ),
-            Error::Damaged => write!(
-                to,
-                "A list names a block that the card does not have: check the lists, and bring the file back from a copy."
-            ),
-            Error::Saved => write!(
-                to,
-                "These bytes are no saved table in its exact form: take them whole and unchanged from a save, or bring them back from a copy."
-            ),
-            Error::Unknown(code) => write!(
-                to,
-                "The library answered {code}, which its rules do not have: link the library that this crate belongs to."
-            ),
+            Error::Geometry { block_size, block_count } => say!("A card of {block_count} blocks of {block_size} bytes is not served: take blocks of 128 to 65536 bytes, 1 to 65536 of them, at most 16777216 bytes in all."),
+            Error::ImageLength { needed, given } => say!("The image has {given} bytes, but the geometry needs {needed}: pass the whole image and nothing else."),
+            Error::HealthLength { needed, given } => say!("The health has {given} bytes, but the card has {needed} blocks: pass one byte a block."),
+            Error::Health { block, value } => say!("Block {block} has the health byte {value}: use 0 (good), 1 (refuses erase) or 2 (refuses program)."),
+            Error::Lookahead(lookahead) => say!("A lookahead of {lookahead} bytes is not served: take 8 to 64, a multiple of 8."),
+            Error::Start { start, block_count } => say!("The window cannot start at block {start}: the card has {block_count} blocks, so take a start below that."),
+            Error::Window => say!("The window is none of this card: make a fresh one, or hand on the one that the last call left."),
+            Error::Table => say!("These entries are no table: list at most {FILES} files, numbers rising up to {NUMBER_MAX}, sizes up to {FILE_MAX}, heads up to 65535, and the null head exactly where the size is 0."),
+            Error::FileNumber(number) => say!("{number} is no file number: take one from 0 to {NUMBER_MAX}."),
+            Error::NoFile(number) => say!("There is no file {number}: create it, or take a number that the table holds."),
+            Error::Exists(number) => say!("File {number} is there already: write to it, or remove it first."),
+            Error::TableFull => say!("The table holds {FILES} files and no more: remove one first."),
+            Error::Position(position) => say!("{position} is no position: take one from 0 to {FILE_MAX}."),
+            Error::PastEnd { position, size } => say!("Position {position} is past the end: the file has {size} bytes, so take a position below that."),
+            Error::Size(size) => say!("{size} is no size: take one from 0 to {FILE_MAX}."),
+            Error::Seek => say!("The seek leads to no position: stay from 0 to {FILE_MAX}."),
+            Error::TooLarge { position, length } => say!("{length} bytes at position {position} end above the largest size, {FILE_MAX}: write less, or earlier in the file."),
+            Error::Buffer { given } => say!("The saved table does not fit into {given} bytes: {SAVED_MAX} are enough for every table."),
+            Error::NoRoom => say!("No block is left on the card: remove or shorten a file first."),
+            Error::Damaged => say!("A list names a block that the card does not have: check the lists, and bring the file back from a copy."),
+            Error::Saved => say!("These bytes are no saved table in its exact form: take them whole and unchanged from a save, or bring them back from a copy."),
+            Error::Unknown(code) => say!("The library answered {code}, which its rules do not have: link the library that this crate belongs to."),
         }
     }
 }

@@ -84,19 +84,14 @@ impl<'a> Image<'a> {
     #[cfg(feature = "find")]
     pub fn find(&self, list: List, position: u32) -> Result<Option<raw::Found>, Error> {
         let List { head, size } = list;
-        let (bytes, length) = (self.bytes.as_ptr(), self.bytes.len());
-        let geometry = self.geometry.crossing();
-        let told = unsafe { ffi::tid_find(geometry, bytes, length, head, size, position) };
         let invalid = match size {
             0..=FILE_MAX => Error::PastEnd { position, size },
             _ => Error::Size(size),
         };
-        Error::told(told.code, invalid)?;
-        Ok((size > 0).then_some(raw::Found {
-            block: told.block,
-            offset: told.offset,
-            hops: told.hops,
-        }))
+        match raw::find(self.geometry.crossing(), self.bytes, head, size, position) {
+            Ok(found) => Ok((size > 0).then_some(found)),
+            Err(code) => Error::told(code, invalid).map(|()| None),
+        }
     }
 
     /// The blocks of a list, last index first, each index once.
@@ -127,11 +122,9 @@ impl<'a> Image<'a> {
     /// The first fault of a list; `None` if it is sound.
     #[cfg(feature = "check")]
     pub fn check(&self, list: List) -> Result<Option<raw::Fault>, Error> {
-        let checked = raw::check(self.geometry.crossing(), self.bytes, list.head, list.size);
-        checked.or_else(|code| {
-            Error::told(code, Error::Size(list.size))?;
-            Ok(None)
-        })
+        let List { head, size } = list;
+        let checked = raw::check(self.geometry.crossing(), self.bytes, head, size);
+        checked.or_else(|code| Error::told(code, Error::Size(size)).map(|()| None))
     }
 }
 

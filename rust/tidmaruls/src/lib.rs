@@ -36,6 +36,8 @@ assert_eq!(card.view().check(3)?, None);
 
 #![cfg_attr(not(feature = "full"), allow(rustdoc::broken_intra_doc_links))]
 
+#[cfg_attr(not(feature = "full"), allow(dead_code, unused_imports, unused_macros))]
+mod border;
 #[cfg(feature = "full")]
 mod card;
 mod error;

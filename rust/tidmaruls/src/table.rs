@@ -132,8 +132,8 @@ impl Table {
     }
 
     /// As it crosses the border.
-    pub(crate) fn crossing(&self) -> ffi::Table {
-        self.0
+    pub(crate) fn crossing(&self) -> &ffi::Table {
+        &self.0
     }
 
     /// What a call handed back.

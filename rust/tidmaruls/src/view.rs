@@ -1,7 +1,8 @@
 //! Files on a card, to read.
 
+use crate::border::Seen;
 use crate::table::on_file;
-use crate::{ffi, Error, Fault, FileReader, Found, Geometry, Image, Table, Visit};
+use crate::{Error, Fault, FileReader, Found, Geometry, Image, Table, Visit};
 
 /// An image and the table of its files: all that reading needs.
 #[derive(Clone, Copy, Debug)]
@@ -52,15 +53,7 @@ impl<'a> View<'a> {
     /// # Ok::<(), tidmaruls::Error>(())
     /// ```
     pub fn read(&self, number: u32, position: u32, to: &mut [u8]) -> Result<usize, Error> {
-        let (image, geometry) = (self.image.bytes(), self.image.geometry().crossing());
-        let (bytes, length) = (image.as_ptr(), image.len());
-        let table = self.table.crossing();
-        let (room, space) = (to.as_mut_ptr(), to.len());
-        let told = unsafe {
-            ffi::tid_read(
-                geometry, bytes, length, table, number, position, room, space,
-            )
-        };
+        let told = self.seen().read(number, position, to);
         on_file(told.code, number, Error::Position(position))?;
         Ok(told.length as usize)
     }
@@ -97,14 +90,20 @@ impl<'a> View<'a> {
     /// # Ok::<(), tidmaruls::Error>(())
     /// ```
     pub fn stretch(&self, number: u32, position: u32) -> Result<&'a [u8], Error> {
-        let (image, geometry) = (self.image.bytes(), self.image.geometry().crossing());
-        let (bytes, length) = (image.as_ptr(), image.len());
-        let table = self.table.crossing();
-        let told = unsafe { ffi::tid_stretch(geometry, bytes, length, table, number, position) };
+        let told = self.seen().stretch(number, position);
         on_file(told.code, number, Error::Position(position))?;
         let place = told.place as usize;
-        let part = image.get(place..place + told.length as usize);
+        let part = self.image.bytes().get(place..place + told.length as usize);
         part.ok_or(Error::Unknown(told.code))
+    }
+
+    /// As a call that reads takes it.
+    fn seen(&self) -> Seen<'a> {
+        Seen {
+            geometry: self.image.geometry().crossing(),
+            image: self.image.bytes(),
+            table: self.table.crossing(),
+        }
     }
 
     /// A reader of a file, at its start.

@@ -98,6 +98,11 @@ impl Window {
         Ok(Window::crossed(self.lookahead, told.window))
     }
 
+    /// As it crosses the border.
+    pub(crate) fn crossing(&self) -> &ffi::Window {
+        &self.held
+    }
+
     /// What a call handed back.
     pub(crate) fn crossed(lookahead: u32, held: ffi::Window) -> Window {
         Window { lookahead, held }

@@ -10,6 +10,14 @@ fn geometry() -> Geometry {
     Geometry::new(128, 16).expect("served")
 }
 
+/// A card with file 5.
+fn with_file<'a>(geometry: Geometry, image: &'a mut [u8], health: &'a [u8]) -> Card<'a> {
+    let mut card = Card::new(geometry, image, health).expect("a card");
+    card.create(5).expect("room in the table");
+    card.write(5, 0, &[9; 300]).expect("room on the card");
+    card
+}
+
 #[test]
 fn lengths_are_checked() {
     let geometry = geometry();
@@ -60,9 +68,7 @@ fn geometries() {
 fn refusals() {
     let geometry = geometry();
     let (mut image, health) = (geometry.blank_image(), geometry.good_health());
-    let mut card = Card::new(geometry, &mut image, &health).expect("a card");
-    card.create(5).expect("room in the table");
-    card.write(5, 0, &[9; 300]).expect("room on the card");
+    let mut card = with_file(geometry, &mut image, &health);
     let (table, window) = (*card.table(), *card.window());
     let beyond = FILE_MAX + 1;
     assert_eq!(card.write(6, 0, &[1]), Err(Error::NoFile(6)));
@@ -94,9 +100,7 @@ fn refusals() {
 fn damage() {
     let geometry = geometry();
     let (mut image, health) = (geometry.blank_image(), geometry.good_health());
-    let mut card = Card::new(geometry, &mut image, &health).expect("a card");
-    card.create(5).expect("room in the table");
-    card.write(5, 0, &[9; 300]).expect("room on the card");
+    let card = with_file(geometry, &mut image, &health);
     let table = *card.table();
     let head = table.entries()[0].head as usize;
     image[128 * head] = 16;

@@ -163,10 +163,5 @@ fn files_that_do_not_fit() {
         desk.write(&file, &before);
     }
     desk.remove("unit/health");
-    let (status, _, error) = desk.run("check unit");
-    assert_eq!(status, 2);
-    assert!(
-        error.contains("unit has no file `health`, so it is no card"),
-        "{error}"
-    );
+    desk.refused("check unit", "unit has no file `health`, so it is no card");
 }

@@ -55,6 +55,13 @@ impl Desk {
         out
     }
 
+    /// Runs the tool, which must refuse these words and say why among its errors.
+    pub fn refused(&self, words: &str, says: &str) {
+        let (status, out, error) = self.run(words);
+        assert_eq!(status, 2, "{words}: {out}{error}");
+        assert!(error.contains(says), "{words}: {out}{error}");
+    }
+
     pub fn read(&self, file: &str) -> Vec<u8> {
         fs::read(self.0.join(file)).expect("a file that is there")
     }

@@ -109,11 +109,9 @@ fn old_content_is_kept() {
         "{error}"
     );
     assert_eq!(desk.fed("put unit 40 -", b"x").0, 2);
-    let (status, _, error) = desk.run("put unit 5 /dev/zero");
-    assert_eq!(status, 2);
-    assert!(
-        error.contains("more bytes than the whole card, which has 5120"),
-        "{error}"
+    desk.refused(
+        "put unit 5 /dev/zero",
+        "more bytes than the whole card, which has 5120",
     );
     assert_eq!(
         (desk.read("unit/image"), desk.read("unit/table")),

@@ -97,19 +97,15 @@ fn past_the_end() {
     let desk = Desk::new("past");
     desk.done("new unit --block-size 128 --block-count 10");
     desk.fed("put unit 3 -", b"bytes");
-    let (status, _, error) = desk.run("find unit 3 5");
-    assert_eq!(status, 2);
-    assert!(
-        error.contains("Position 5 is past the end: the file has 5 bytes"),
-        "{error}"
+    desk.refused(
+        "find unit 3 5",
+        "Position 5 is past the end: the file has 5 bytes",
     );
     assert_eq!(desk.done("get unit 3 --at 5"), "");
     assert_eq!(desk.run("truncate unit 3 2147483648").0, 2);
-    let (status, _, error) = desk.run("truncate unit 3 2000");
-    assert_eq!(status, 2);
-    assert!(
-        error.contains("It takes 17 new blocks, and 9 good ones are free"),
-        "{error}"
+    desk.refused(
+        "truncate unit 3 2000",
+        "It takes 17 new blocks, and 9 good ones are free",
     );
     desk.done("truncate unit 3 0");
     assert_eq!(desk.run("find unit 3 0").0, 2);

@@ -123,7 +123,7 @@ impl Bench<'_> {
         let number = self.number();
         let position = self.position(self.size_of(number));
         let length = self.length() as usize;
-        let data: Vec<u8> = (0..length).map(|_| self.random.word() as u8).collect();
+        let data = self.random.bytes(length);
         let block_size = self.card.geometry.block_size;
         let needs = self.plain.write_needs(block_size, number, position, length);
         if self.changes(needs, |card| card.write(number, position, &data)) {

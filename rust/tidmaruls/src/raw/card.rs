@@ -2,6 +2,7 @@
 
 #[allow(unused_imports)]
 use super::{ffi, Geometry, Refusal, Table, Window};
+use crate::border::{Lent, Seen};
 
 /// All that a call on files works on. A refused call leaves it as the rules say.
 #[derive(Clone, PartialEq, Eq, Debug)]
@@ -60,20 +61,7 @@ impl Card {
     /// Grows the list of this head and size by one block: the block and where its data goes on.
     #[cfg(feature = "extend")]
     pub fn extend(&mut self, head: u32, size: u32) -> Result<(u32, u32), Refusal> {
-        let told = unsafe {
-            ffi::tid_extend(
-                self.geometry,
-                self.lookahead,
-                self.image.as_mut_ptr(),
-                self.image.len(),
-                self.health.as_ptr(),
-                self.health.len(),
-                self.table,
-                self.window,
-                head,
-                size,
-            )
-        };
+        let told = self.lent().extend(head, size);
         self.window = told.window;
         super::refused(told.code).map(|_| (told.block, told.offset))
     }
@@ -81,79 +69,58 @@ impl Card {
     /// Reads from a position to the end of `to` or of the file; answers how many bytes.
     #[cfg(feature = "read")]
     pub fn read(&self, number: u32, position: u32, to: &mut [u8]) -> Result<u32, Refusal> {
-        let told = unsafe {
-            ffi::tid_read(
-                self.geometry,
-                self.image.as_ptr(),
-                self.image.len(),
-                self.table,
-                number,
-                position,
-                to.as_mut_ptr(),
-                to.len(),
-            )
-        };
+        let told = self.seen().read(number, position, to);
         super::refused(told.code).map(|_| told.length)
     }
 
     /// The bytes from a position to the end of its block or file, where they lie on the card.
     #[cfg(feature = "stretch")]
     pub fn stretch(&self, number: u32, position: u32) -> Result<&[u8], Refusal> {
-        let told = unsafe {
-            ffi::tid_stretch(
-                self.geometry,
-                self.image.as_ptr(),
-                self.image.len(),
-                self.table,
-                number,
-                position,
-            )
-        };
+        let told = self.seen().stretch(number, position);
         let place = told.place as usize;
         super::refused(told.code).map(|_| &self.image[place..place + told.length as usize])
     }
 
     #[cfg(feature = "write")]
     pub fn write(&mut self, number: u32, position: u32, data: &[u8]) -> Result<(), Refusal> {
-        let told = unsafe {
-            ffi::tid_write(
-                self.geometry,
-                self.lookahead,
-                self.image.as_mut_ptr(),
-                self.image.len(),
-                self.health.as_ptr(),
-                self.health.len(),
-                self.window,
-                self.table,
-                number,
-                position,
-                data.as_ptr(),
-                data.len(),
-            )
-        };
+        let told = self.lent().write(number, position, data);
+        self.stored(told)
+    }
+
+    #[cfg(feature = "truncate")]
+    pub fn truncate(&mut self, number: u32, size: u32) -> Result<(), Refusal> {
+        let told = self.lent().truncate(number, size);
+        self.stored(told)
+    }
+}
+
+#[allow(dead_code)]
+impl Card {
+    /// Takes over the window and table that a call left.
+    fn stored(&mut self, told: ffi::Stored) -> Result<(), Refusal> {
         self.window = told.window;
         self.table = told.table;
         super::refused(told.code)
     }
 
-    #[cfg(feature = "truncate")]
-    pub fn truncate(&mut self, number: u32, size: u32) -> Result<(), Refusal> {
-        let told = unsafe {
-            ffi::tid_truncate(
-                self.geometry,
-                self.lookahead,
-                self.image.as_mut_ptr(),
-                self.image.len(),
-                self.health.as_ptr(),
-                self.health.len(),
-                self.window,
-                self.table,
-                number,
-                size,
-            )
-        };
-        self.window = told.window;
-        self.table = told.table;
-        super::refused(told.code)
+    /// As a call that reads takes it.
+    fn seen(&self) -> Seen<'_> {
+        Seen {
+            geometry: self.geometry,
+            image: &self.image,
+            table: &self.table,
+        }
+    }
+
+    /// As a call that changes the image takes it.
+    fn lent(&mut self) -> Lent<'_> {
+        Lent {
+            geometry: self.geometry,
+            lookahead: self.lookahead,
+            image: &mut self.image,
+            health: &self.health,
+            window: &self.window,
+            table: &self.table,
+        }
     }
 }

@@ -1,15 +1,8 @@
 /* The list calls from C, on a list of three blocks laid out by hand. */
+#include "expect.h"
 #include "tidmaruls.h"
 #include <stdio.h>
 #include <string.h>
-
-#define EXPECT(holds) \
-    do { \
-        if (!(holds)) { \
-            fprintf(stderr, "%s:%d: not so: %s\n", __FILE__, __LINE__, #holds); \
-            return 1; \
-        } \
-    } while (0)
 
 static void put(uint8_t *block, uint32_t pointer, uint32_t number) {
     int byte;

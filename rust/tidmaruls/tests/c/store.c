@@ -1,15 +1,8 @@
 /* The main job from C: a file made, written across a block border, read back, checked, saved and loaded; refusals. */
+#include "expect.h"
 #include "tidmaruls.h"
 #include <stdio.h>
 #include <string.h>
-
-#define EXPECT(holds) \
-    do { \
-        if (!(holds)) { \
-            fprintf(stderr, "%s:%d: not so: %s\n", __FILE__, __LINE__, #holds); \
-            return 1; \
-        } \
-    } while (0)
 
 enum { BLOCK = 128, COUNT = 16, LOOKAHEAD = 8 };
 static const tid_geometry geometry = {BLOCK, COUNT};

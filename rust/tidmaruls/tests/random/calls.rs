@@ -49,6 +49,18 @@ const PLAIN: Call = Call {
     codes: &[],
 };
 
+/// One of the calls that change the image: their first arguments are the same.
+#[allow(unused_macros)]
+macro_rules! changed {
+    ($l:ident, $call:ident($($further:expr),+)) => {
+        unsafe {
+            let (image, length) = ($l.image.start_mut(), $l.image.length());
+            let (health, count) = ($l.health.start(), $l.health.length());
+            ffi::$call($l.geometry, $l.lookahead, image, length, health, count, $($further),+)
+        }
+    };
+}
+
 /// The calls whose features are on.
 pub const CALLS: &[Call] = &[
     #[cfg(feature = "index")]
@@ -162,7 +174,10 @@ pub const CALLS: &[Call] = &[
     #[cfg(feature = "extend")]
     Call {
         name: "extend",
-        run: extend,
+        run: |l| {
+            let told = changed!(l, tid_extend(l.table, l.window, l.head, l.size));
+            windowed(told.code, &[told.block, told.offset], told.window)
+        },
         changes: Changes::Image,
         given_window: true,
         codes: &[0, -22, -28, -84],
@@ -213,7 +228,13 @@ pub const CALLS: &[Call] = &[
     #[cfg(feature = "save")]
     Call {
         name: "save",
-        run: save,
+        run: |l| {
+            filled(l, |l| {
+                let (buffer, room) = (l.buffer.start_mut(), l.buffer.length());
+                let told = unsafe { ffi::tid_save(l.table, buffer, room) };
+                (told.code, told.length)
+            })
+        },
         changes: Changes::Buffer,
         codes: &[0, -22],
         ..PLAIN
@@ -234,7 +255,7 @@ pub const CALLS: &[Call] = &[
     #[cfg(feature = "read")]
     Call {
         name: "read",
-        run: read,
+        run: |l| filled(l, read),
         changes: Changes::Buffer,
         codes: &[0, -2, -22, -84],
         ..PLAIN
@@ -242,14 +263,30 @@ pub const CALLS: &[Call] = &[
     #[cfg(feature = "stretch")]
     Call {
         name: "stretch",
-        run: stretch,
+        run: |l| {
+            let (image, length) = (l.image.start(), l.image.length());
+            let told = unsafe {
+                ffi::tid_stretch(l.geometry, image, length, l.table, l.number, l.position)
+            };
+            assert!(
+                told.place as usize + told.length as usize <= length,
+                "in the image"
+            );
+            values(told.code, &[told.place, told.length])
+        },
         codes: &[0, -2, -22, -84],
         ..PLAIN
     },
     #[cfg(feature = "write")]
     Call {
         name: "write",
-        run: write,
+        run: |l| {
+            let (data, length) = (l.data.start(), l.data.length());
+            stored(changed!(
+                l,
+                tid_write(l.window, l.table, l.number, l.position, data, length)
+            ))
+        },
         changes: Changes::Image,
         given_window: true,
         given_table: true,
@@ -258,7 +295,12 @@ pub const CALLS: &[Call] = &[
     #[cfg(feature = "truncate")]
     Call {
         name: "truncate",
-        run: truncate,
+        run: |l| {
+            stored(changed!(
+                l,
+                tid_truncate(l.window, l.table, l.number, l.size)
+            ))
+        },
         changes: Changes::Image,
         given_window: true,
         given_table: true,
@@ -280,39 +322,8 @@ fn tabled(code: i32, told: &[u32], table: Table) -> Answer {
     }
 }
 
-#[cfg(feature = "extend")]
-fn extend(l: &mut Lent) -> Answer {
-    let told = unsafe {
-        ffi::tid_extend(
-            l.geometry,
-            l.lookahead,
-            l.image.start_mut(),
-            l.image.length(),
-            l.health.start(),
-            l.health.length(),
-            l.table,
-            l.window,
-            l.head,
-            l.size,
-        )
-    };
-    windowed(told.code, &[told.block, told.offset], told.window)
-}
-
-/// Bytes past the saved form keep their values.
-#[cfg(feature = "save")]
-fn save(l: &mut Lent) -> Answer {
-    let before = l.buffer.bytes().to_vec();
-    let told = unsafe { ffi::tid_save(l.table, l.buffer.start_mut(), l.buffer.length()) };
-    let length = told.length as usize;
-    assert!(l.buffer.bytes()[length..] == before[length..]);
-    values(told.code, &[told.length])
-}
-
-/// Bytes past those read keep their values.
 #[cfg(feature = "read")]
-fn read(l: &mut Lent) -> Answer {
-    let before = l.buffer.bytes().to_vec();
+fn read(l: &mut Lent) -> (i32, u32) {
     let told = unsafe {
         ffi::tid_read(
             l.geometry,
@@ -325,59 +336,16 @@ fn read(l: &mut Lent) -> Answer {
             l.buffer.length(),
         )
     };
-    let length = told.length as usize;
-    assert!(l.buffer.bytes()[length..] == before[length..]);
-    values(told.code, &[told.length])
+    (told.code, told.length)
 }
 
-/// The part lies in the image.
-#[cfg(feature = "stretch")]
-fn stretch(l: &mut Lent) -> Answer {
-    let (image, length) = (l.image.start(), l.image.length());
-    let told =
-        unsafe { ffi::tid_stretch(l.geometry, image, length, l.table, l.number, l.position) };
-    assert!(told.place as usize + told.length as usize <= length);
-    values(told.code, &[told.place, told.length])
-}
-
-#[cfg(feature = "write")]
-fn write(l: &mut Lent) -> Answer {
-    let told = unsafe {
-        ffi::tid_write(
-            l.geometry,
-            l.lookahead,
-            l.image.start_mut(),
-            l.image.length(),
-            l.health.start(),
-            l.health.length(),
-            l.window,
-            l.table,
-            l.number,
-            l.position,
-            l.data.start(),
-            l.data.length(),
-        )
-    };
-    stored(told)
-}
-
-#[cfg(feature = "truncate")]
-fn truncate(l: &mut Lent) -> Answer {
-    let told = unsafe {
-        ffi::tid_truncate(
-            l.geometry,
-            l.lookahead,
-            l.image.start_mut(),
-            l.image.length(),
-            l.health.start(),
-            l.health.length(),
-            l.window,
-            l.table,
-            l.number,
-            l.size,
-        )
-    };
-    stored(told)
+/// A call that fills the front of the buffer; bytes past the length that it answers keep their values.
+fn filled(l: &mut Lent, call: impl FnOnce(&mut Lent) -> (i32, u32)) -> Answer {
+    let before = l.buffer.bytes().to_vec();
+    let (code, length) = call(l);
+    let past = length as usize;
+    assert!(l.buffer.bytes()[past..] == before[past..]);
+    values(code, &[length])
 }
 
 fn stored(told: ffi::Stored) -> Answer {

@@ -1,6 +1,6 @@
 //! All that a call can be lent or told, mostly within the rules.
 
-use crate::numbers::Random;
+use numbers::Random;
 use std::hash::{Hash, Hasher};
 use tidmaruls::ffi::{Entry, Geometry, Table, Visit, Window};
 use tidmaruls::{FILE_MAX, NULL};

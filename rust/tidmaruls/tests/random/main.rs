@@ -3,7 +3,6 @@
 
 mod calls;
 mod lent;
-mod numbers;
 
 use calls::{Call, Changes, CALLS};
 use lent::Lent;

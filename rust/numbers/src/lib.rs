@@ -1,5 +1,6 @@
 //! Random numbers that are the same in every run (splitmix64).
 
+/// A source of numbers; equal seeds give equal numbers.
 pub struct Random(u64);
 
 impl Random {
@@ -22,6 +23,12 @@ impl Random {
     /// A number below `bound`, which is above 0.
     pub fn below(&mut self, bound: u32) -> u32 {
         ((self.number() as u64 * bound as u64) >> 32) as u32
+    }
+
+    /// A number from `low` to `high`, both included.
+    pub fn between(&mut self, low: u32, high: u32) -> u32 {
+        let bound = high as u64 - low as u64 + 1;
+        low + ((self.number() as u64 * bound) >> 32) as u32
     }
 
     /// True once in `times`.
