@@ -19,7 +19,7 @@ use Rattle.ctz.proofs.Lookups.{found-tells, found-answers}
 use Rattle.plain.specs.Reading.{Got, Bytes, before, gather}
 use Rattle.reading.specs.Bounds.{Ranged}
 use Rattle.reading.specs.Calls.{clean, bytesOf}
-use Rattle.reading.proofs.Parts.{clean-before, bytes-before, length-part, lent-part}
+use Rattle.reading.proofs.Parts.{clean-before, bytes-before, length-part}
 
 -- what a block that was found gives: at least one byte, the part lies in the block, the block in the image, and the rest is a run too
 pub record Step (B N size p n len k off m : ℕ) : Type 0 where
@@ -124,26 +124,28 @@ module _ (image : List ℕ) (head : ℕ) {B N size p n : ℕ} (r : Ranged B N si
   pub bytes-turn : clean now ≡ true → bytesOf now ≡ part ++ bytesOf later
   bytes-turn c = ap bytesOf (all-turn image head p n r some m e q) ∙ bytes-before part later (sym clean-turn ∙ c)
 
-  -- the block is lent as a part of the image, and the part copied out of it
-  abbrev lent : List ℕ
-  lent = take m (drop off (take (k * B + B - k * B) (drop (k * B) image)))
+  pub copy-keeps : (buffer after : List ℕ) (to : ℕ) → after ≡ sets buffer to part → length after ≡ length buffer
+  copy-keeps buffer after to a = ap (λ (bs : List ℕ). length bs) a ∙ length-sets buffer to part
 
-  pub copy-keeps : (buffer after : List ℕ) (to : ℕ) → after ≡ sets buffer to lent → length after ≡ length buffer
-  copy-keeps buffer after to a = ap (λ (bs : List ℕ). length bs) a ∙ length-sets buffer to lent
-
-  pub copy-turn : (buffer after : List ℕ) (to : ℕ) → clean now ≡ true → after ≡ sets buffer to lent
+  pub copy-turn : (buffer after : List ℕ) (to : ℕ) → clean now ≡ true → after ≡ sets buffer to part
       → sets buffer to (bytesOf now) ≡ sets after (to + m) (bytesOf later)
   copy-turn buffer after to c a =
-      let s = step image head r some m e q in
       ap (sets buffer to) (bytes-turn c) ∙ sets-append buffer to part (bytesOf later)
       ∙ ap (λ (x : ℕ). sets (sets buffer to part) (to + x) (bytesOf later)) part-length
-      ∙ ap (λ (bs : List ℕ). sets bs (to + m) (bytesOf later)) (sym (a ∙ ap (sets buffer to) (lent-part image (k * B) B off m (s .in-block))))
+      ∙ ap (λ (bs : List ℕ). sets bs (to + m) (bytesOf later)) (sym a)
 
   -- the first block of a run, then the rest
-  pub copy-first : (buffer after end : List ℕ) → clean now ≡ true → after ≡ sets buffer 0 lent → end ≡ sets after m (bytesOf later)
+  pub copy-first : (buffer after end : List ℕ) → clean now ≡ true → after ≡ sets buffer 0 part → end ≡ sets after m (bytesOf later)
       → end ≡ sets buffer 0 (bytesOf now)
   copy-first buffer after end c a f =
       f ∙ ap (λ (x : ℕ). sets after x (bytesOf later)) (sym (zero-add m)) ∙ sym (copy-turn buffer after 0 c a)
+
+  -- a run that ends in its first block
+  pub copy-only : (buffer after : List ℕ) → n - m ≤ 0 → after ≡ sets buffer 0 part → (clean now ≡ true) × (after ≡ sets buffer 0 (bytesOf now))
+  copy-only buffer after l a =
+      let none = all-none image B N head size (p + m) (n - m) l in
+      let c = clean-turn ∙ ap clean none in
+      (c, copy-first buffer after after c a (sym (ap (λ (g : Got). sets after m (bytesOf g)) none)))
 
 -- ---- what a run gives: exactly as many bytes as were asked for, or -84
 

@@ -6,3 +6,5 @@ pub mod Asks
 pub mod Results
 pub mod Outcomes
 pub mod Plain
+pub mod Runs
+pub mod Copying

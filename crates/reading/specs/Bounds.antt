@@ -1,12 +1,6 @@
 -- What the inner functions ask of their callers, as named bounds.
-use mathlib.Core.Path.{_≡_}
-use mathlib.Core.Bool.{true}
-use mathlib.Core.List.{List}
-use Prim.Native.Nat.{ℕ, _+_, _≤_, _<_}
-use lib.ListN.{length}
+use Prim.Native.Nat.{ℕ, _+_, _*_, _≤_, _<_}
 use Rattle.card.specs.Card.{Card}
-use Rattle.plain.specs.Reading.{gather}
-use Rattle.reading.specs.Calls.{clean}
 
 -- A list behind the tests: a card, and a size that is none too large.
 pub record Listed (B N size len : ℕ) : Type 0 where
@@ -25,8 +19,9 @@ pub record Roomy (B N size p n len room : ℕ) : Type 0 where
   pub some : 0 < n
   pub fits : n ≤ room
 
--- The lookups of all their blocks found them, and there is room from place `to` on.
-pub record Cleared (image : List ℕ) (B N head size p n to room : ℕ) : Type 0 where
-  pub run : Ranged B N size p n (length image)
-  pub found : clean (gather n image B N head size p n) ≡ true
-  pub fits : to + n ≤ room
+-- A part of a block that lies in the image, with room for it from place `to` on.
+pub record Parted (B k off m to len room : ℕ) : Type 0 where
+  pub block : k * B + B ≤ len
+  pub whole : len ≤ 16777216
+  pub inside : off + m ≤ B
+  pub fits : to + m ≤ room

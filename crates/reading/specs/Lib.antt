@@ -2,3 +2,4 @@
 pub mod Bounds
 pub mod Calls
 pub mod Codes
+pub mod Runs

@@ -1,4 +1,4 @@
--- `copy_found` copies a run exactly if every lookup finds its block: the first block's part, then the rest, once all of it was found.
+-- `copy_found` copies a run exactly if every lookup finds its block: the first block's part, then the rest, once all of it was found. Assumes nothing.
 use mathlib.Core.Path.{_≡_, sym, ap, _∙_}
 use borrow.Author.Tests.{not-true, not-false}
 use denote.Ref.{now}
@@ -7,9 +7,9 @@ use Prim.Native.Nat.{_+_, _-_}
 use Rattle.ctz.specs.Lookup.{walkTo}
 use Rattle.ctz.specs.declared.Found.the-variants.{At}
 use Rattle.plain.specs.Reading.{gather}
+use Rattle.reading.specs.Bounds.{Parted}
 use Rattle.reading.specs.Calls.{clean}
-use Rattle.reading.proofs.Parts.{lent-length}
-use Rattle.reading.proofs.Gathers.{offset-below, never-refused, Step, step, clean-turn, copy-keeps, copy-first, all-damaged}
+use Rattle.reading.proofs.Gathers.{offset-below, never-refused, Step, step, clean-turn, copy-keeps, copy-first, copy-only, all-damaged}
 use Rattle.reading.proofs.Inner.{run-copied, run-damaged}
 use native.Mathlib.Omega.{arith}
 use borrow.Author.Needs.{needs}
@@ -47,6 +47,21 @@ same c =
     let s = c .before .before .before .before .before .before .before in
     clean-turn (now (s .args .image)) (s .args .head) (s .pre .run) (s .pre .some) (c .least .result) (there (c .before)) (c .least .ensures)
 
+-- the first block's part lies in the image, and there is room for it
+first-part : (c : tie.After-least)
+    → let a = c .before .before .before .before .before .before .before .args in
+    let f = c .before .before .found .given .0 in
+    Parted (a .b) (f .0) (f .1 .0) (c .least .result) 0 (length (now (a .image))) (length (now (a .buffer)))
+first-part c =
+    let s = turn c in
+    let p = c .before .before .before .before .before .before .before .pre in
+    record {
+      block = s .inside;
+      whole = omega (arith, p .run .card .long, p .run .card .whole);
+      inside = s .in-block;
+      fits = omega (arith, s .most-left, p .fits);
+    }
+
 sub-least : tie.Need-sub-least
 sub-least c =
     let s = c .before .before .before .before .before .before in
@@ -55,71 +70,57 @@ sub-least c =
 least-requires : tie.Need-least-requires
 least-requires c κs = search needs
 
+sub-rest : tie.Need-sub-rest
+sub-rest c = search needs
+
+copy-part-requires : tie.Need-copy-part-requires
+copy-part-requires c κs = first-part (c .before .before)
+
+same-length : tie.Need-same-length
+same-length c = search needs
+
+returns : tie.Need-returns
+returns c =
+    let e = c .before .before .before .before .before in
+    let g = e .before .before .before .before .before .before .before in
+    let o =
+    copy-only (now (g .args .image)) (g .args .head) (g .pre .run) (g .pre .some) (e .least .result) (there (e .before)) (e .least .ensures)
+    (now (g .args .buffer)) _ (omega (arith, c .before .before .before .before .if1 .taken)) (c .before .before .copy-part .ensures) in
+    run-copied _ _ _ (o .0) (o .1)
+
 add-found-all : tie.Need-add-found-all
 add-found-all c = search needs
-
-sub-found-all : tie.Need-sub-found-all
-sub-found-all c = search needs
 
 found-all-requires : tie.Need-found-all-requires
 found-all-requires c κs = search needs
 
-returns : tie.Need-returns
-returns c = run-damaged _ _ (same (c .before .before) ∙ sym (c .before .found-all .ensures) ∙ not-true _ (c .if1 .taken))
+returns-2 : tie.Need-returns-2
+returns-2 c = run-damaged _ _ (same (c .before .before .before .before) ∙ sym (c .before .found-all .ensures .is) ∙ not-true _ (c .if2 .taken))
 
-cast-start : tie.Need-cast-start
-cast-start c = search needs
-
-mul-start : tie.Need-mul-start
-mul-start c = let s = turn (c .before .before) in omega (arith, s .inside)
-
-add-copy : tie.Need-add-copy
-add-copy c = let s = turn (c .before .before .before) in omega (arith, s .inside)
-
-sub-copy : tie.Need-sub-copy
-sub-copy c = search needs
-
-part-copy-start : tie.Need-part-copy-start
-part-copy-start c = search needs
-
-part-copy-end : tie.Need-part-copy-end
-part-copy-end c = let s = turn (c .before .before .before) in omega (arith, s .inside)
-
-cast-copy : tie.Need-cast-copy
-cast-copy c = search needs
-
-cast-copy-2 : tie.Need-cast-copy-2
-cast-copy-2 c = search needs
-
-copy-requires : tie.Need-copy-requires
-copy-requires c κs =
-    let l = c .before .before .before .before in
-    let s = turn l in
-    let g = l .before .before .before .before .before .before .before in
-    (omega (arith, s .most-left, g .pre .fits), omega (arith, s .in-block, lent-length (now (g .args .image)) _ _ (s .inside)))
+copy-part-requires-2 : tie.Need-copy-part-requires-2
+copy-part-requires-2 c κs = first-part (c .before .before .before .before .before)
 
 add-copy-all : tie.Need-add-copy-all
 add-copy-all c = search needs
-
-sub-copy-all : tie.Need-sub-copy-all
-sub-copy-all c = search needs
 
 cast-copy-all : tie.Need-cast-copy-all
 cast-copy-all c = search needs
 
 copy-all-requires : tie.Need-copy-all-requires
 copy-all-requires c κs =
-    let m = c .before .before .before in
-    let e = m .before .before .before in
-    let l = e .before .before in
-    let g = l .before .before .before .before .before .before .before in
-    let s = turn l in
+    let e = c .before .before .before .before .before .before .before .before .before .before in
+    let g = e .before .before .before .before .before .before .before in
+    let f = c .before .before .before .before .before .before .before .found-all in
+    let t = not-false _ (c .before .before .before .before .before .before .if2 .left) in
+    let s = turn e in
     let long =
-    copy-keeps (now (g .args .image)) (g .args .head) (g .pre .run) (g .pre .some) (l .least .result) (there (l .before)) (l .least .ensures)
-    (now (g .args .buffer)) _ 0 (m .copy .ensures) in
+    copy-keeps (now (g .args .image)) (g .args .head) (g .pre .run) (g .pre .some) (e .least .result) (there (e .before)) (e .least .ensures)
+    (now (g .args .buffer)) _ 0 (c .before .before .before .before .copy-part2 .ensures) in
     record {
       run = s .rest;
-      found = sym (e .before .found-all .ensures) ∙ not-false _ (e .if1 .left);
+      some = omega (arith, c .before .before .before .before .before .before .before .before .before .if1 .left);
+      found = sym (f .ensures .is) ∙ t;
+      noted = f .ensures .noted t;
       fits = omega (arith, long, s .most-left, g .pre .fits);
     }
 
@@ -129,30 +130,27 @@ enum-told c = search needs
 enum-told-2 : tie.Need-enum-told-2
 enum-told-2 c = search needs
 
-same-length : tie.Need-same-length
-same-length c = search needs
-
-returns-2 : tie.Need-returns-2
-returns-2 c =
-    let k = c .before .before in
-    let m = k .before .before .before .before in
-    let e = m .before .before .before in
-    let l = e .before .before in
-    let g = l .before .before .before .before .before .before .before in
-    let w = same l ∙ sym (e .before .found-all .ensures) ∙ not-false _ (e .if1 .left) in
-    run-copied _ _ _ w
-    (copy-first (now (g .args .image)) (g .args .head) (g .pre .run) (g .pre .some) (l .least .result) (there (l .before)) (l .least .ensures)
-    (now (g .args .buffer)) _ _ w
-    (m .copy .ensures) (k .copy-all .ensures))
+same-length-2 : tie.Need-same-length-2
+same-length-2 c = search needs
 
 returns-3 : tie.Need-returns-3
 returns-3 c =
+    let e = c .before .before .before .before .before .before .before .before .before .before .before .before .before in
+    let g = e .before .before .before .before .before .before .before in
+    let w = same e ∙ sym (c .before .before .before .before .before .before .before .before .before .before .found-all .ensures .is) ∙ not-false _ (c .before .before .before .before .before .before .before .before .before .if2 .left) in
+    run-copied _ _ _ w
+    (copy-first (now (g .args .image)) (g .args .head) (g .pre .run) (g .pre .some) (e .least .result) (there (e .before)) (e .least .ensures)
+    (now (g .args .buffer)) _ _ w
+    (c .before .before .before .before .before .before .before .copy-part2 .ensures) (c .before .before .copy-all .ensures))
+
+returns-4 : tie.Need-returns-4
+returns-4 c =
     let f = c .before .before in
     let g = f .before .before .before in
     run-damaged _ _ (ap clean (all-damaged _ _ _ _ _ _ _ (g .pre .some) (sym (f .find-in .ensures) ∙ c .enum-told .given .1)))
 
-returns-4 : tie.Need-returns-4
-returns-4 c =
+returns-5 : tie.Need-returns-5
+returns-5 c =
     let f = c .before .before in
     let g = f .before .before .before in
     absurd (never-refused (now (g .args .image)) (g .args .head) (g .pre .run) (g .pre .some) (sym (f .find-in .ensures) ∙ c .enum-told2 .given .1))
@@ -165,26 +163,20 @@ copy-found-spec =
     enum-known-found
     sub-least
     least-requires
-    add-found-all
-    sub-found-all
-    found-all-requires
+    sub-rest
+    copy-part-requires
+    same-length
     returns
-    cast-start
-    mul-start
-    add-copy
-    sub-copy
-    part-copy-start
-    part-copy-end
-    cast-copy
-    cast-copy-2
-    copy-requires
+    add-found-all
+    found-all-requires
+    returns-2
+    copy-part-requires-2
     add-copy-all
-    sub-copy-all
     cast-copy-all
     copy-all-requires
     enum-told
     enum-told-2
-    same-length
-    returns-2
+    same-length-2
     returns-3
-    returns-4)
+    returns-4
+    returns-5)

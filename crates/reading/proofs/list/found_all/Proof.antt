@@ -1,116 +1,112 @@
--- `found_all` answers whether every lookup of the run finds its block. The invariant: what is left of the run is clean exactly if the whole run is.
-use mathlib.Core.Path.{_≡_, refl, sym, ap, _∙_}
+-- `found_all` answers whether every lookup of the run finds its block: those of the indexes from its first position's to its last one's. Assumes nothing.
+use Prim.Native.Nat.{_+_, _-_}
+use native.Mathlib.Nat.{min-le-left, min-le-right}
 use native.Mathlib.Omega.{arith}
 use borrow.Author.Needs.{needs}
-use lib.ListN.{length}
+use borrow.Author.Tests.{not-true, not-false}
 use denote.Ref.{now}
-use Rattle.ctz.specs.Lookup.{walkTo}
-use Rattle.ctz.specs.declared.Found.the-variants.{At}
-use Rattle.plain.specs.Reading.{gather}
-use Rattle.reading.specs.Bounds.{Ranged}
-use Rattle.reading.specs.Calls.{clean}
-use Rattle.reading.proofs.Gathers.{offset-below, never-refused, step, clean-turn, all-none, all-damaged}
+use Rattle.reading.proofs.Runs.{indexed, ordered, answered-lost, answered-short, answered-on}
 use Rattle.reading.proofs.list.found_all.Statement.{statement}
 use Rattle.reading.proofs.list.found_all.Tie as tie
 
-abbrev Inv-loop : tie.InvT-loop
-Inv-loop b n image head size pos count p₀ left₀ p left =
-    Ranged b n size p left (length image)
-    × (clean (gather count image b n head size pos count) ≡ clean (gather left image b n head size p left))
+sub-index-at : tie.Need-sub-index-at
+sub-index-at c = search needs
 
-abbrev μ-loop : tie.MeasureT-loop
-μ-loop b n image head size pos count p₀ left₀ p left = left
+index-at-requires : tie.Need-index-at-requires
+index-at-requires c κs = search needs
 
-loop-holds : tie.Need-loop-holds Inv-loop μ-loop
-loop-holds c = (c .before .pre, refl)
+index-at-requires-2 : tie.Need-index-at-requires-2
+index-at-requires-2 c κs = search needs
 
-find-in-requires : tie.Need-find-in-requires Inv-loop μ-loop
-find-in-requires c κs = search needs
+sub-index-at-2 : tie.Need-sub-index-at-2
+sub-index-at-2 c = search needs
 
-enum-known-found : tie.Need-enum-known-found Inv-loop μ-loop
-enum-known-found c = search needs
+add-index-at : tie.Need-add-index-at
+add-index-at c = search needs
 
--- the walk's answer where a block is found
-there : (c : tie.After-known-told Inv-loop μ-loop)
-    → let l = c .before .before .before .before .before in
-    let a = l .before .before .args in
-    let f = c .before .found .given .0 in
-    walkTo (now (a .image)) (a .b) (a .n) (a .head) (a .size) (l .loop .p) ≡ At (f .0) (f .1 .0) (f .1 .1 .0)
-there c = sym (c .before .before .before .find-in .ensures) ∙ c .before .found .given .1
+index-at-requires-3 : tie.Need-index-at-requires-3
+index-at-requires-3 c κs = search needs
 
-sub-least : tie.Need-sub-least Inv-loop μ-loop
-sub-least c =
-    let l = c .before .before .before .before in
-    let a = l .before .before .before .args in
-    omega (arith, offset-below (now (a .image)) (a .head) (l .before .loop .inv .0) (l .loop-test .taken) (there c))
+sub-least : tie.Need-sub-least
+sub-least c = let s = c .before .before .before .before in ordered (s .pre .run) (s .pre .some) (c .before .index-at2 .ensures) (c .index-at3 .ensures)
 
-least-requires : tie.Need-least-requires Inv-loop μ-loop
+add-least : tie.Need-add-least
+add-least c =
+    let i = c in
+    let s = i .before .before .before .before in
+    let l = indexed (s .pre .run) (s .pre .some) (i .before .before .index-at .ensures) (i .index-at3 .ensures) in
+    omega (arith, l .below, l .short)
+
+least-requires : tie.Need-least-requires
 least-requires c κs = search needs
 
-add-p : tie.Need-add-p Inv-loop μ-loop
-add-p c = search needs
+find-run-requires : tie.Need-find-run-requires
+find-run-requires c κs =
+    let i = c .before .before in
+    let s = i .before .before .before .before in
+    let l = indexed (s .pre .run) (s .pre .some) (i .before .before .index-at .ensures) (i .index-at3 .ensures) in
+    let m = min-le-left (i .index-at3 .result - i .before .index-at2 .result + 1) 1024 in
+    let k = min-le-right (i .index-at3 .result - i .before .index-at2 .result + 1) 1024 in
+    record {
+      walks = l .walks;
+      inside = omega (arith, c .before .least .ensures, l .below, ordered (s .pre .run) (s .pre .some) (i .before .index-at2 .ensures) (i .index-at3 .ensures));
+      fits = omega (arith, c .before .least .ensures, s .pre .long);
+      few = omega (arith, s .pre .long);
+    }
 
-sub-left : tie.Need-sub-left Inv-loop μ-loop
-sub-left c = search needs
-
-loop-less : tie.Need-loop-less Inv-loop μ-loop
-loop-less c =
-    let l = c .before .before .before .before .before in
-    let a = l .before .before .before .args in
-    let s = step (now (a .image)) (a .head) (l .before .loop .inv .0) (l .loop-test .taken) (c .least .result) (there (c .before)) (c .least .ensures) in
-    omega (arith, s .some, s .most-left)
-
-loop-again : tie.Need-loop-again Inv-loop μ-loop
-loop-again c =
-    let l = c .before .before .before .before .before in
-    let a = l .before .before .before .args in
-    let r = l .before .loop .inv .0 in
-    let h = l .loop-test .taken in
-    let m = c .least .result in
-    let q = c .least .ensures in (
-      step (now (a .image)) (a .head) r h m (there (c .before)) q .rest,
-      l .before .loop .inv .1 ∙ clean-turn (now (a .image)) (a .head) r h m (there (c .before)) q,
-    )
-
-enum-told : tie.Need-enum-told Inv-loop μ-loop
-enum-told c = search needs
-
-returns : tie.Need-returns Inv-loop μ-loop
+returns : tie.Need-returns
 returns c =
-    let f = c .before .before in
-    let l = f .before .before .loop in
-    sym (l .inv .1 ∙ ap clean (all-damaged _ _ _ _ _ _ _ (f .before .loop-test .taken) (sym (f .find-in .ensures) ∙ c .enum-told .given .1)))
+    let i = c .before .before .before .before in
+    let s = i .before .before .before .before in
+    answered-lost (now (s .args .image)) (s .pre) (i .before .before .index-at .ensures) (i .before .index-at2 .ensures) (i .index-at3 .ensures)
+    (c .before .before .before .least .ensures) _ (c .before .find-run .ensures) (not-true _ (c .if1 .taken))
 
-enum-told-2 : tie.Need-enum-told-2 Inv-loop μ-loop
-enum-told-2 c = search needs
+sub-if2 : tie.Need-sub-if2
+sub-if2 c =
+    let i = c .before .before .before .before in
+    let s = i .before .before .before .before in
+    ordered (s .pre .run) (s .pre .some) (i .before .index-at2 .ensures) (i .index-at3 .ensures)
 
-returns-2 : tie.Need-returns-2 Inv-loop μ-loop
+returns-2 : tie.Need-returns-2
 returns-2 c =
-    let f = c .before .before in
-    let a = f .before .before .before .before .args in
-    absurd (never-refused (now (a .image)) (a .head) (f .before .before .loop .inv .0) (f .before .loop-test .taken)
-    (sym (f .find-in .ensures) ∙ c .enum-told2 .given .1))
+    let i = c .before .before .before .before .before in
+    let s = i .before .before .before .before in
+    answered-short (now (s .args .image)) (s .pre) (i .before .before .index-at .ensures) (i .before .index-at2 .ensures) (i .index-at3 .ensures)
+    (c .before .before .before .before .least .ensures) _ (c .before .before .find-run .ensures) (not-false _ (c .before .if1 .left)) (c .if2 .taken)
 
-returns-3 : tie.Need-returns-3 Inv-loop μ-loop
-returns-3 c = sym (c .before .loop .inv .1 ∙ ap clean (all-none _ _ _ _ _ _ _ (c .loop-test .left)))
+add-found-from : tie.Need-add-found-from
+add-found-from c = search needs
+
+found-from-requires : tie.Need-found-from-requires
+found-from-requires c κs =
+    let i = c .before .before .before .before .before in
+    let s = i .before .before .before .before in
+    indexed (s .pre .run) (s .pre .some) (i .before .before .index-at .ensures) (i .index-at3 .ensures)
+
+returns-3 : tie.Need-returns-3
+returns-3 c =
+    let i = c .before .before .before .before .before .before in
+    let s = i .before .before .before .before in
+    answered-on (now (s .args .image)) (s .pre) (i .before .before .index-at .ensures) (i .before .index-at2 .ensures) (i .index-at3 .ensures)
+    (c .before .before .before .before .before .least .ensures) _ (c .before .before .before .find-run .ensures) _ (not-false _ (c .before .before .if1 .left)) (c .before .if2 .left) (c .found-from .ensures)
 
 pub found-all-spec : {M : Type 1} → statement M
 found-all-spec =
     tie.close
     (tie.spec
-    Inv-loop
-    μ-loop
-    loop-holds
-    find-in-requires
-    enum-known-found
+    sub-index-at
+    index-at-requires
+    index-at-requires-2
+    sub-index-at-2
+    add-index-at
+    index-at-requires-3
     sub-least
+    add-least
     least-requires
-    add-p
-    sub-left
-    loop-less
-    loop-again
-    enum-told
+    find-run-requires
     returns
-    enum-told-2
+    sub-if2
     returns-2
+    add-found-from
+    found-from-requires
     returns-3)
