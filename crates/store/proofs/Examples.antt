@@ -1,5 +1,5 @@
 -- Writes on a card of six blocks of 16 bytes, by computing. The allocator hands out 2, 3, 4, ..; block 5 refuses a program. The old file is 20 bytes
--- of 7 in blocks 0 and 1: the second holds a pointer and four bytes.
+-- of 7 in blocks 0 and 1: the second holds a pointer and four bytes. Through the whole call: `Refusing` for what -84 and -28 leave, `Shrinking` for truncate.
 use mathlib.Core.Path.{_≡_, refl}
 use mathlib.Core.Bool.{Bool, true, false}
 use mathlib.Core.List.{List, [], _∷_, _++_}

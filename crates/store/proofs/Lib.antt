@@ -10,3 +10,5 @@ pub mod Tested
 pub mod Calls
 pub mod Refusals
 pub mod Examples
+pub mod Shrinking
+pub mod Refusing
