@@ -5,7 +5,7 @@ use store::Outcome;
 use store::Stored;
 use window::Lookahead;
 ghost use mathlib.Core.Path.{_≡_};
-ghost use Rattle.store.specs.Store.{storeWrite, storeTruncate};
+ghost use Rattle.store.specs.Store.{outcomeCode, storeWrite, storeTruncate};
 ghost use Rattle.tidmaruls.specs.Writes.{storedTold};
 
 // Window and table after a call that changes a file.
@@ -16,43 +16,30 @@ pub struct TidStore {
     pub table: Table,
 }
 
+// 01's number for an outcome.
+fn outcome_code(answer: Outcome) -> i32
+    ensures { λ r. ⌜ r ≡ outcomeCode answer ⌝ }
+{
+    match answer {
+        Outcome::Done => 0,
+        Outcome::Missing => -2,
+        Outcome::TooLarge => -27,
+        Outcome::Full => -28,
+        Outcome::Damaged => -84,
+        Outcome::Refused => -22,
+    }
+}
+
 fn stored_told(s: Stored) -> TidStore
     ensures { λ r. ⌜ r ≡ storedTold s ⌝ }
 {
     let answer = s.answer;
     let window = s.window;
     let table = s.table;
-    match answer {
-        Outcome::Done => TidStore {
-            code: 0,
-            window: window,
-            table: table,
-        },
-        Outcome::Missing => TidStore {
-            code: -2,
-            window: window,
-            table: table,
-        },
-        Outcome::TooLarge => TidStore {
-            code: -27,
-            window: window,
-            table: table,
-        },
-        Outcome::Full => TidStore {
-            code: -28,
-            window: window,
-            table: table,
-        },
-        Outcome::Damaged => TidStore {
-            code: -84,
-            window: window,
-            table: table,
-        },
-        Outcome::Refused => TidStore {
-            code: -22,
-            window: window,
-            table: table,
-        },
+    TidStore {
+        code: outcome_code(answer),
+        window: window,
+        table: table,
     }
 }
 

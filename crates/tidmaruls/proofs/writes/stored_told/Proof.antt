@@ -1,57 +1,20 @@
--- `tidmaruls::writes::stored_told` meets its contract, case by case. Assumes nothing.
+-- `tidmaruls::writes::stored_told` meets its contract: the code is that of the answer. Assumes nothing.
+use mathlib.Core.Path.{_≡_, ap, _∙_}
+use lib.IntN.{ℤ}
+use mir.Val.{toZ, ofZ}
+use mir.Syntax.{w32}
 use borrow.Author.Needs.{needs}
 use Rattle.tidmaruls.proofs.writes.stored_told.Statement.{statement}
 use Rattle.tidmaruls.proofs.writes.stored_told.Tie as tie
 
-enum-told : tie.Need-enum-told
-enum-told c = search needs
-
-enum-told-2 : tie.Need-enum-told-2
-enum-told-2 c = search needs
-
-enum-told-3 : tie.Need-enum-told-3
-enum-told-3 c = search needs
-
-enum-told-4 : tie.Need-enum-told-4
-enum-told-4 c = search needs
-
-enum-told-5 : tie.Need-enum-told-5
-enum-told-5 c = search needs
-
-enum-told-6 : tie.Need-enum-told-6
-enum-told-6 c = search needs
+outcome-code-requires : tie.Need-outcome-code-requires
+outcome-code-requires c κs = search needs
 
 returns : tie.Need-returns
-returns c = rw (c .enum-told .given .1)
-
-returns-2 : tie.Need-returns-2
-returns-2 c = rw (c .enum-told2 .given .1)
-
-returns-3 : tie.Need-returns-3
-returns-3 c = rw (c .enum-told3 .given .1)
-
-returns-4 : tie.Need-returns-4
-returns-4 c = rw (c .enum-told4 .given .1)
-
-returns-5 : tie.Need-returns-5
-returns-5 c = rw (c .enum-told5 .given .1)
-
-returns-6 : tie.Need-returns-6
-returns-6 c = rw (c .enum-told6 .given .1)
+returns c =
+    let s = c .before .before .before .args .s in
+    let kept : toZ w32 (ofZ w32 (c .outcome-code .result)) ≡ c .outcome-code .result = search needs in
+    ap (λ (z : ℤ). record { code = z; window = s .window; table = s .table }) (kept ∙ c .outcome-code .ensures)
 
 pub stored-told-spec : {M : Type 1} → statement M
-stored-told-spec =
-    tie.close
-    (tie.spec
-    enum-told
-    enum-told-2
-    enum-told-3
-    enum-told-4
-    enum-told-5
-    enum-told-6
-    returns
-    returns-2
-    returns-3
-    returns-4
-    returns-5
-    returns-6)
+stored-told-spec = tie.close (tie.spec outcome-code-requires returns)
