@@ -1,5 +1,6 @@
 // The reading calls of the store: read, and the stretch with its companion. Both see geometry, image, table, file number and position.
 mod list;
+mod passes;
 
 use files::Found;
 use files::Table;
