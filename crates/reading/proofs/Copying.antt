@@ -19,7 +19,7 @@ use Rattle.reading.specs.Bounds.{Ranged, Parted}
 use Rattle.reading.specs.Calls.{clean, bytesOf}
 use Rattle.reading.specs.Runs.{Reached, Indexed, Held, Turning, Turned, Cleared}
 use Rattle.reading.proofs.Gathers.{Step, step, offset-below, clean-turn, copy-keeps, copy-turn}
-use Rattle.reading.proofs.Runs.{indexed, found-at, part-next, clean-reached}
+use Rattle.reading.proofs.Positions.{indexed, found-at, part-next, clean-reached}
 
 -- what every turn has: the list, and the buffer that came
 pub record Copying (image came : List ℕ) (B N head size pos count at top last : ℕ) (buffer blocks : List ℕ) (base i off p left to : ℕ) : Type 0 where

@@ -7,4 +7,5 @@ pub mod Results
 pub mod Outcomes
 pub mod Plain
 pub mod Runs
+pub mod Positions
 pub mod Copying

@@ -5,7 +5,7 @@ use native.Mathlib.Omega.{arith}
 use borrow.Author.Needs.{needs}
 use borrow.Author.Tests.{not-true, not-false}
 use denote.Ref.{now}
-use Rattle.reading.proofs.Runs.{indexed, ordered, answered-lost, answered-short, answered-on}
+use Rattle.reading.proofs.Positions.{indexed, ordered, answered-lost, answered-short, answered-on}
 use Rattle.reading.proofs.passes.found_all.Statement.{statement}
 use Rattle.reading.proofs.passes.found_all.Tie as tie
 
