@@ -1,13 +1,13 @@
 -- Laws of `sets`, a run of stores: its turns, what it leaves elsewhere, and what stands in its place.
 use mathlib.Core.Path.{_≡_, refl, sym, ap, _∙_}
 use mathlib.Core.Logic.{_⊎_, inl, inr}
-use mathlib.Core.List.{List, [], _∷_, _++_}
+use mathlib.Core.List.{List, [], _∷_, _++_, append-nil}
 use Prim.Native.Nat.{ℕ, zero, suc, _+_, _≤_, _<_}
 use native.Mathlib.Nat.{add-zero}
 use native.Mathlib.Numerals.{add-one}
 use native.Mathlib.Omega.{arith}
-use lib.ListN.{length, getD, set, take, drop, replicate, length-set, length-take, length-drop, length-replicate, replicate-append-replicate}
-use lib.Seq.{sets, length-take-le, take-suc, drop-cons, getD-drop, getD-set-same, getD-set-other, take-set-le, drop-set-lt}
+use lib.ListN.{length, getD, set, take, drop, replicate, length-set, length-take, length-drop, length-replicate, replicate-append-replicate, drop-of-length-le}
+use lib.Seq.{sets, sets-eq, take-all, take-add, drop-drop, length-take-le, take-suc, drop-cons, getD-drop, getD-set-same, getD-set-other, take-set-le, drop-set-lt}
 
 -- ---- one run after another, and one store more
 
@@ -15,6 +15,29 @@ pub sets-append : (l : List ℕ) (i : ℕ) (vs ws : List ℕ) → sets l i (vs +
 sets-append l i [] ws = rw add-zero
 sets-append l i (v ∷ vs) ws =
     sets-append (set l i v) (suc i) vs ws ∙ ap (λ (k : ℕ). sets (sets (set l i v) (suc i) vs) k ws) (omega arith)
+
+-- a run of i + m of the bytes that stand from `from` on: the first i, then m more
+pub sets-more : (l : List ℕ) (to : ℕ) (bs : List ℕ) (from i m : ℕ) → from + i ≤ length bs
+    → sets l to (take (i + m) (drop from bs)) ≡ sets (sets l to (take i (drop from bs))) (to + i) (take m (drop (from + i) bs))
+sets-more l to bs from i m h =
+    let e : length (take i (drop from bs)) ≡ i = length-take-le i (drop from bs) (omega (arith, length-drop from bs)) in
+    rw (take-add i m (drop from bs), drop-drop i from bs)
+    (sets-append l to (take i (drop from bs)) (take m (drop (from + i) bs))
+    ∙ ap (λ (k : ℕ). sets (sets l to (take i (drop from bs))) (to + k) (take m (drop (from + i) bs))) e)
+
+-- a run over the whole list is what stands there then
+pub sets-whole : (l vs : List ℕ) → length vs ≡ length l → sets l 0 vs ≡ vs
+sets-whole l vs h =
+    let d : drop (0 + length vs) l ≡ [] = drop-of-length-le l {i = 0 + length vs} (omega arith) in
+    sets-eq vs l 0 (omega arith) ∙ rw d (append-nil vs)
+
+-- so m bytes that went into a list of their own length come out again
+pub piece-back : (l piece bs : List ℕ) (from m : ℕ) → length l ≡ m → from + m ≤ length bs → piece ≡ sets l 0 (take m (drop from bs))
+    → take m (drop 0 piece) ≡ take m (drop from bs)
+piece-back l piece bs from m e h p =
+    let n : length (take m (drop from bs)) ≡ m = length-take-le m (drop from bs) (omega (arith, length-drop from bs)) in
+    let q = p ∙ sets-whole l (take m (drop from bs)) (omega arith) in
+    take-all m (drop 0 piece) (omega (arith, ap length q)) ∙ q
 
 -- the run grows at its end
 pub sets-snoc : (l : List ℕ) (i : ℕ) (vs : List ℕ) (j d : ℕ) → j < length vs
