@@ -266,18 +266,17 @@ pub fn remove(t: Table, number: u32) -> Changed
 }
 
 // The table with another size and head of the file at place `i`.
-pub fn put(t: Table, i: u32, size: u32, head: u32) -> Table
+pub fn put(mut t: Table, i: u32, size: u32, head: u32) -> Table
     requires { ⌜ i < filesMax ⌝ }
     ensures { λ r. ⌜ r ≡ putOf t i size head ⌝ }
 {
-    let mut u = t;
     let number = t.files[i as usize].number;
-    u.files[i as usize] = Entry {
+    t.files[i as usize] = Entry {
         number: number,
         size: size,
         head: head,
     };
-    u
+    t
 }
 
 // Where a seek leads.
