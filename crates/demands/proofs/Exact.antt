@@ -1,27 +1,23 @@
 -- -28 exactly, on any table, its lists sound or not: from a fresh window, and where no step answers -84. Assumes nothing.
 use mathlib.Core.Path.{_≡_, refl, ap, subst}
 use mathlib.Core.Logic.{_⊎_, inl, inr}
-use mathlib.Core.Bool.{Bool, true, false, _&&_}
+use mathlib.Core.Bool.{Bool, true, false}
 use mathlib.Core.List.{List, []}
 use Prim.Native.Nat.{ℕ, suc, _+_, _-_, _^_, _≤_, _<_}
 use native.Mathlib.Omega.{arith}
 use lib.IntN.{negsuc}
 use lib.ListN.{length, length-replicate}
-use Rattle.card.specs.Card.{Card, goodCard}
+use Rattle.card.specs.Card.{Card}
 use Rattle.card.proofs.Cards.{card}
-use Rattle.device.specs.Health.{healthOk}
 use Rattle.files.specs.declared.Entry.{Entry}
 use Rattle.files.specs.declared.Table.{Table}
 use Rattle.files.specs.declared.Found.the-variants as found
 use Rattle.files.specs.Table.{sizeMax, held, file}
 use Rattle.files.specs.Find.{findOf}
-use Rattle.files.proofs.Cases.{found-at}
-use Rattle.files.proofs.Laws.{table-valid}
-use Rattle.files.proofs.Tests.{both-left, both-right}
 use Rattle.window.specs.declared.Lookahead.{Lookahead}
 use Rattle.window.specs.declared.Answer.{Answer}
 use Rattle.window.specs.declared.Answer.the-variants as answer
-use Rattle.window.specs.Value.{freshOf, checkpointOf, lookaheadFits, validOf, Sizes}
+use Rattle.window.specs.Value.{freshOf, checkpointOf, Sizes}
 use Rattle.window.specs.Scan.{seenAll}
 use Rattle.window.specs.Allocate.{allocOf}
 use Rattle.window.proofs.Cases.{no-both}
@@ -37,7 +33,10 @@ use Rattle.windows.proofs.Rotate.{whole-circle}
 use Rattle.alloc.specs.Visits.{seenIn, listedIn, visitsOf}
 use Rattle.grow.specs.Extend.{tookOf, windowAlloc}
 use Rattle.store.specs.Write.{Writing, WriteOut, Written, NoRoom, Corrupt, zeros, new, kept}
-use Rattle.store.specs.Store.{jobOf, lookIn, puts, storeTested, written, writtenOf}
+use Rattle.store.specs.Store.{jobOf, lookIn, puts, written, writtenOf}
+use Rattle.store.specs.Calls.{testedOf}
+use Rattle.store.proofs.Tested.{tests, file-most}
+use Rattle.store.proofs.Calls as calls
 use Rattle.writes.specs.Allocator.{Stays}
 use Rattle.writes.specs.Plain.{need}
 use Rattle.writes.proofs.Counting.{some-need, Counted, corrupt, done, counted, first-bad}
@@ -47,7 +46,6 @@ use Rattle.demands.specs.Space.{goodBlock, blocksFor, goodFree, Exactly}
 use Rattle.demands.proofs.Tables.{listedBy}
 use Rattle.demands.proofs.Windows.{Listed, InCall, ExactFor, goodsLeft, windowed}
 use Rattle.demands.proofs.AnyVisits.{all-below, told-again, ok-or-not}
-use Rattle.demands.proofs.Calls as laws
 
 -- an allocation that has nothing left and is told of a failed visit
 only-bad : {base n : ℕ} {ok : Bool} {c : ℕ} {q : Answer} {v : Lookahead} → View (λ b t. ⊥) base n ok c q v → c ≡ n → 0 < n → q ≡ answer.Damaged
@@ -132,25 +130,18 @@ module _ (B N l start : ℕ) (health : List ℕ) (t : Table) (img : List ℕ) (b
 -- ---- the calls
 
 module _ (B N l start : ℕ) (health : List ℕ) (t : Table) (image : List ℕ) (below : start < N)
-    (tested : storeTested B N l image health (freshOf start N) ≡ true) (number i : ℕ) (here : findOf t number ≡ found.At i) where
+    (tested : testedOf B N l (length image) health (freshOf start N) ≡ true) (number i : ℕ) (here : findOf t number ≡ found.At i) where
   abbrev s : State
   s = record { window = freshOf start N; table = t; image = image }
 
   a-card : Card B N (length image)
-  a-card =
-      card B N (length image)
-      (both-left (goodCard B N (length image)) (healthOk health N)
-      (both-left (goodCard B N (length image) && healthOk health N) (lookaheadFits l)
-      (both-left (goodCard B N (length image) && healthOk health N && lookaheadFits l) (validOf (freshOf start N) N l) tested)))
+  a-card = card B N (length image) (tests B N l image health (freshOf start N) tested .card)
 
   a-size : Sizes N l
-  a-size =
-      looks N l (a-card .some) (a-card .few)
-      (both-right (goodCard B N (length image) && healthOk health N) (lookaheadFits l)
-      (both-left (goodCard B N (length image) && healthOk health N && lookaheadFits l) (validOf (freshOf start N) N l) tested))
+  a-size = looks N l (a-card .some) (a-card .few) (tests B N l image health (freshOf start N) tested .lookahead)
 
   most : file t i .size ≤ sizeMax
-  most = let f = found-at t number i here in table-valid t (f .ok) .size-le i (f .below)
+  most = file-most B N l image health (freshOf start N) t number i tested here
 
   -- what the answer decides is what the code says
   told-code : (needed free : ℕ) (v : Lookahead) (img : List ℕ) (a : Writing) → (storedIn (written t i a v img) .code ≡ negsuc 83 → ⊥)
@@ -167,7 +158,7 @@ module _ (B N l start : ℕ) (health : List ℕ) (t : Table) (image : List ℕ) 
       → Exactly (blocksFor B (file t i .size) p (length src)) (goodFree B N health s) (after B N l health (write number p src) s .code)
   unfolding after listedIn
   write-exactly p src some fits =
-      rw (laws.write-puts B N l image health (freshOf start N) t number p src tested i here (omega arith) fits (λ z. omega arith))
+      rw (calls.write-some B N l image health (freshOf start N) t number p src tested i here (omega arith) fits (λ z. omega arith))
       (λ n. told-code _ _ _ _ (puts B N l health t (file t i) p src (freshOf start N) image .answer) n
       (decided B N l start health t image below a-size a-card (file t i) p src some fits most))
 
@@ -178,7 +169,7 @@ module _ (B N l start : ℕ) (health : List ℕ) (t : Table) (image : List ℕ) 
   truncate-exactly size more fits =
       let z = length-replicate {A = ℕ} (size - file t i .size) 0 in
       let o = puts B N l health t (file t i) (file t i .size) (zeros (size - file t i .size)) (freshOf start N) image in
-      rw (laws.truncate-more B N l image health (freshOf start N) t number size tested i here fits more)
+      rw (calls.truncate-more B N l image health (freshOf start N) t number size tested i here fits (omega arith) (λ z. omega arith))
       (λ n. subst (λ (k : ℕ). Exactly (blocksFor B (file t i .size) (file t i .size) k) (goodFree B N health s) (storedIn (writtenOf t i o) .code)) z
       (told-code _ _ _ _ (o .answer) n
       (decided B N l start health t image below a-size a-card (file t i) (file t i .size) (zeros (size - file t i .size)) (omega arith) (omega arith) most)))

@@ -23,7 +23,7 @@ use Rattle.window.specs.declared.Lookahead.{Lookahead}
 use Rattle.window.specs.Value.{lookaheadFits, Valid, Sizes}
 use Rattle.window.proofs.Valid.{valid-tested, looks}
 use Rattle.windows.specs.Call.{Clean}
-use Rattle.store.specs.Store.{storeTested}
+use Rattle.store.specs.Calls.{testedOf}
 use Rattle.demands.specs.Calls.{State}
 use Rattle.demands.specs.Came.{Among, here, there, Sounds}
 use Rattle.demands.proofs.Tables.{listedBy, SoundFiles, none, one, of-sounds}
@@ -99,11 +99,12 @@ put-held {B} {N} {l} t number i size h w img ok b p bf =
 
 -- on sound lists with a valid window only health bytes and L are left to test
 pub tested-is : {B N l : ℕ} {s : State} (health : List ℕ) → Held B N l s
-    → storeTested B N l (s .image) health (s .window) ≡ (healthOk health N && lookaheadFits l)
+    → testedOf B N l (length (s .image)) health (s .window) ≡ (healthOk health N && lookaheadFits l)
+unfolding testedOf
 tested-is {B} {N} {l} {s} health h =
-    rw (h .sounds .card, valid-tested (s .window) N l (h .valid)) (and-true (healthOk health N && lookaheadFits l))
+    rw (testedOf, h .sounds .card, valid-tested (s .window) N l (h .valid)) (and-true (healthOk health N && lookaheadFits l))
 
-pub tested-sizes : {B N l : ℕ} {s : State} (health : List ℕ) → Held B N l s → storeTested B N l (s .image) health (s .window) ≡ true → Sizes N l
+pub tested-sizes : {B N l : ℕ} {s : State} (health : List ℕ) → Held B N l s → testedOf B N l (length (s .image)) health (s .window) ≡ true → Sizes N l
 tested-sizes {B} {N} {l} {s} health h q =
     let c = card B N (length (s .image)) (h .sounds .card) in
     looks N l (c .some) (c .few) (both-right (healthOk health N) (lookaheadFits l) (sym (tested-is health h) ∙ q))

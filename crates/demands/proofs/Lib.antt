@@ -10,7 +10,6 @@ pub mod Named
 pub mod Entries
 pub mod Contents
 pub mod Kept
-pub mod Calls
 pub mod Ends
 pub mod Steps
 pub mod Puts

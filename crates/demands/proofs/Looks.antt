@@ -34,10 +34,9 @@ use Rattle.demands.specs.Looks.{plainSize, plainSeek, readFrom, plainRea
 use Rattle.demands.specs.Runs.{filesIn}
 use Rattle.demands.proofs.Tables.{of-sounds}
 use Rattle.demands.proofs.Again.{among-at}
-use Rattle.demands.proofs.Named.{Placed, placed-at, FindView, high, missing, at, find-view}
+use Rattle.demands.proofs.Named.{Placed, placed-at, FindView, high, missing, at, find-view, number-high, number-none, number-some}
 use Rattle.demands.proofs.Contents.{placed-holds, unnamed-holds, placed-bytes}
 use Rattle.demands.proofs.Kept.{sound-files}
-use Rattle.demands.proofs.Calls.{number-high, number-none, number-some}
 
 module _ {B N : ℕ} {s : State} (sounds : Sounds B N s) (number : ℕ) where
   abbrev t : Table

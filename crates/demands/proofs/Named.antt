@@ -5,6 +5,7 @@ use mathlib.Core.List.{List, [], _∷_}
 use Prim.Native.Nat.{ℕ, zero, suc, _-_, _≤_, _<_}
 use native.Mathlib.Nat.{sub-zero}
 use native.Mathlib.Omega.{arith}
+use borrow.Author.Tests.{le-leb, lt-leb}
 use lib.ListN.{length, getD}
 use lib.Seq.{getD-take}
 use Rattle.files.specs.declared.Entry.{Entry}
@@ -15,6 +16,7 @@ use Rattle.files.specs.Table.{numberMax, noEntry, held, file, tableOk}
 use Rattle.files.specs.Find.{searchOf, findOf}
 use Rattle.files.proofs.Tests.{eqb-cases, leb-cases}
 use Rattle.files.proofs.Cases.{find-no-number, find-is, found-at}
+use Rattle.demands.specs.Plain.{PlainFile, holds, onFile}
 use Rattle.demands.proofs.Again.{AtPlace}
 use Rattle.demands.proofs.Again.{first as first-place, next as next-place}
 
@@ -101,3 +103,15 @@ find-view t number ok = leb-cases number numberMax (λ b. FindView t number (fin
 
     inside : number ≤ numberMax → FindView t number (findOf t number)
     inside h = subst (FindView t number) (sym (find-is t number ok h)) (by h (searchOf 0 number (held t)) refl)
+
+-- the file number, among plain files
+
+module _ {A : Type 0} (number : ℕ) (fs : List PlainFile) (big none some : A) where
+  pub number-high : numberMax < number → onFile number fs big none some ≡ big
+  number-high h = rw (onFile, lt-leb number numberMax h)
+
+  pub number-none : number ≤ numberMax → holds number fs ≡ false → onFile number fs big none some ≡ none
+  number-none h q = rw (onFile, le-leb number numberMax h, q)
+
+  pub number-some : number ≤ numberMax → holds number fs ≡ true → onFile number fs big none some ≡ some
+  number-some h q = rw (onFile, le-leb number numberMax h, q)

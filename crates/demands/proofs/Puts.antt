@@ -16,17 +16,18 @@ use Rattle.files.specs.Find.{findOf}
 use Rattle.files.proofs.Tests.{ltb-cases, eqb-cases}
 use Rattle.plain.specs.Bytes.{bytes}
 use Rattle.store.specs.Write.{Writing, WriteOut}
-use Rattle.store.specs.Store.{StoreOut, storeTested, written, writtenOf, puts, storeWrite}
+use Rattle.store.specs.Store.{StoreOut, written, writtenOf, puts, storeWrite}
+use Rattle.store.specs.Calls.{testedOf}
+use Rattle.store.proofs.Calls as calls
 use Rattle.window.specs.declared.Lookahead.{Lookahead}
 use Rattle.demands.specs.Calls.{State, write, storedIn}
 use Rattle.demands.specs.Plain.{PlainFile, plainCode, unless, wrote}
 use Rattle.demands.specs.Runs.{filesIn}
 use Rattle.demands.proofs.Store as store
 use Rattle.demands.proofs.Again.{among-at, stored-again, refused-again}
-use Rattle.demands.proofs.Named.{Placed, placed-at, FindView, high, missing, at, find-view}
+use Rattle.demands.proofs.Named.{Placed, placed-at, FindView, high, missing, at, find-view, number-high, number-none, number-some}
 use Rattle.demands.proofs.Contents as contents
 use Rattle.demands.proofs.Kept.{Held, before, again, tested-sizes}
-use Rattle.demands.proofs.Calls as laws
 use Rattle.demands.proofs.Ends.{Ends, refused, short, ends-same, ends-write}
 use Rattle.demands.proofs.Steps.{wrote-some, wrote-none}
 
@@ -44,7 +45,7 @@ module _ {B N l : ℕ} {s : State} (h : Held B N l s) (health : List ℕ) (numbe
   fs = filesIn B s
 
   abbrev tested : Bool
-  tested = storeTested B N l img health w
+  tested = testedOf B N l (length img) health w
 
   -- ---- write
 
@@ -85,32 +86,32 @@ module _ {B N l : ℕ} {s : State} (h : Held B N l s) (health : List ℕ) (numbe
         found-one : (i : ℕ) → number ≤ 65535 → i < t .count → Placed number (file t i) i (held t) → tested ≡ true → findOf t number ≡ found.At i
             → Wrote true (storeWrite B N l img health w t number p src)
         found-one i a b pl te q =
-            let c = laws.number-some number fs (negsuc 21) (negsuc 1) (unless (ltb sizeMax p) (negsuc 21) (unless (ltb sizeMax (p + length src)) (negsuc 26) (pos 0))) a
+            let c = number-some number fs (negsuc 21) (negsuc 1) (unless (ltb sizeMax p) (negsuc 21) (unless (ltb sizeMax (p + length src)) (negsuc 26) (pos 0))) a
             (contents.placed-holds B img pl) in
             ltb-cases sizeMax p (λ z. Wrote true (storeWrite B N l img health w t number p src))
-            (λ far. wrote-by (laws.write-far B N l img health w t number p src te i q far)
+            (λ far. wrote-by (calls.write-far B N l img health w t number p src te i q far)
             (refused 21 (omega arith) refl
             (c ∙ ap (λ (z : Bool). unless z (negsuc 21) (unless (ltb sizeMax (p + length src)) (negsuc 26) (pos 0))) (lt-ltb sizeMax p far)) refl))
             (λ near.
             let c₁ = c ∙ ap (λ (z : Bool). unless z (negsuc 21) (unless (ltb sizeMax (p + length src)) (negsuc 26) (pos 0))) (le-ltb sizeMax p near) in
             ltb-cases sizeMax (p + length src) (λ z. Wrote true (storeWrite B N l img health w t number p src))
-            (λ long. wrote-by (laws.write-long B N l img health w t number p src te i q near long)
+            (λ long. wrote-by (calls.write-large B N l img health w t number p src te i q near long)
             (refused 26 (omega arith) refl (c₁ ∙ ap (λ (z : Bool). unless z (negsuc 26) (pos 0)) (lt-ltb sizeMax (p + length src) long)) refl))
             (λ fits.
             let c₂ = c₁ ∙ ap (λ (z : Bool). unless z (negsuc 26) (pos 0)) (le-ltb sizeMax (p + length src) fits) in
             eqb-cases (length src) 0 (λ z. Wrote true (storeWrite B N l img health w t number p src))
-            (λ z. wrote-by (laws.write-none B N l img health w t number p src te i q near fits z)
+            (λ z. wrote-by (calls.write-none B N l img health w t number p src te i q near fits z)
             (ends-same c₂ (sym (contents.change-none number (wrote p src) (λ bs. wrote-none p src bs z) fs)) h))
-            (λ z. wrote-by (laws.write-puts B N l img health w t number p src te i q near fits z) (write-some i b pl te fits z c₂))))
+            (λ z. wrote-by (calls.write-some B N l img health w t number p src te i q near fits z) (write-some i b pl te fits z c₂))))
 
         found-by : {r : Found} → FindView t number r → findOf t number ≡ r → tested ≡ true → Wrote true (storeWrite B N l img health w t number p src)
         found-by (high k) q te =
-            wrote-by (laws.write-refused B N l img health w t number p src te q) (refused 21 (omega arith) refl (laws.number-high number fs _ _ _ k) refl)
+            wrote-by (calls.write-no-table B N l img health w t number p src te q) (refused 21 (omega arith) refl (number-high number fs _ _ _ k) refl)
         found-by (missing a u) q te =
-            wrote-by (laws.write-missing B N l img health w t number p src te q)
-            (refused 1 (omega arith) refl (laws.number-none number fs _ _ _ a (contents.unnamed-holds B img u)) refl)
+            wrote-by (calls.write-missing B N l img health w t number p src te q)
+            (refused 1 (omega arith) refl (number-none number fs _ _ _ a (contents.unnamed-holds B img u)) refl)
         found-by (at i a b pl) q te = found-one i a b pl te q
 
         go : (b : Bool) → tested ≡ b → Wrote b (storeWrite B N l img health w t number p src)
-        go false te = wrote-by (laws.write-untested B N l img health w t number p src te) (refused 21 (omega arith) refl refl refl)
+        go false te = wrote-by (calls.write-untested B N l img health w t number p src te) (refused 21 (omega arith) refl refl refl)
         go true te = found-by (find-view t number (h .sounds .table)) refl te

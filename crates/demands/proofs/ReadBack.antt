@@ -23,7 +23,7 @@ use Rattle.demands.specs.Came.{Sounds, Came}
 use Rattle.demands.specs.Plain.{PlainFile, holds, bytesOf, plainChange, plainCode, unless, wrote}
 use Rattle.demands.specs.Looks.{readFrom, plainRead}
 use Rattle.demands.specs.Runs.{filesIn}
-use Rattle.demands.proofs.Calls.{number-some}
+use Rattle.demands.proofs.Named.{number-some}
 use Rattle.demands.proofs.Steps.{wrote-some}
 use Rattle.demands.proofs.Demands.{accepted-plain, accepted-code}
 use Rattle.demands.proofs.Looks as looks

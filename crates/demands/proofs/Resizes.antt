@@ -23,7 +23,9 @@ use Rattle.plain.specs.Bytes.{bytes}
 use Rattle.plain.proofs.Files.{bytes-length}
 use Rattle.plain.proofs.Finding.{walk-sound, lookup-sound}
 use Rattle.store.specs.Write.{Writing, WriteOut, zeros}
-use Rattle.store.specs.Store.{StoreOut, storeTested, written, writtenOf, puts, storeTruncate}
+use Rattle.store.specs.Store.{StoreOut, written, writtenOf, puts, shrunk, storeTruncate}
+use Rattle.store.specs.Calls.{testedOf}
+use Rattle.store.proofs.Calls as calls
 use Rattle.window.specs.declared.Lookahead.{Lookahead}
 use Rattle.writes.specs.Lists.{blockAt}
 use Rattle.demands.specs.Calls.{State, truncate, storedIn}
@@ -34,10 +36,9 @@ use Rattle.demands.proofs.Store as store
 use Rattle.demands.proofs.Again.{among-at, stored-again, refused-again}
 use Rattle.demands.proofs.Truncates.{grow-plain, shrink-keeps}
 use Rattle.demands.proofs.Changes.{empty-keeps}
-use Rattle.demands.proofs.Named.{Placed, placed-at, FindView, high, missing, at, find-view}
+use Rattle.demands.proofs.Named.{Placed, placed-at, FindView, high, missing, at, find-view, number-high, number-none, number-some}
 use Rattle.demands.proofs.Contents as contents
 use Rattle.demands.proofs.Kept.{Held, before, again, tested-sizes, sound-files}
-use Rattle.demands.proofs.Calls as laws
 use Rattle.demands.proofs.Ends.{Ends, accepted, refused, short, ends-truncate}
 use Rattle.demands.proofs.Steps.{resized-less, resized-more, empty-bytes}
 
@@ -63,7 +64,7 @@ module _ {B N l : ℕ} {s : State} (h : Held B N l s) (health : List ℕ) (numbe
   fs = filesIn B s
 
   abbrev tested : Bool
-  tested = storeTested B N l img health w
+  tested = testedOf B N l (length img) health w
 
   abbrev Resized : Bool → StoreOut → Type 0
   Resized b o = Ends B N l b (truncate number size) s (storedIn o)
@@ -94,7 +95,7 @@ module _ {B N l : ℕ} {s : State} (h : Held B N l s) (health : List ℕ) (numbe
     -- to 0
     to-none : 0 < e .size → size ≡ 0 → Resized true call
     to-none some z =
-        resized-by (laws.truncate-empty B N l img health w t number size te i q near some z)
+        resized-by (calls.truncate-shrinks B N l img health w t number size te i q near (omega arith) ∙ calls.shrinks-none B N img w t i size z)
         (ends-truncate h number i b pl 0 nullBlock w img (resized size) (λ x a. refl)
         (empty-bytes img B nullBlock ∙ ap (λ (n : ℕ). take n (old ++ zeros (size - length old))) (sym z))
         (empty-keeps B N l w img (held t) (before h) e i) true size code refl)
@@ -106,15 +107,15 @@ module _ {B N l : ℕ} {s : State} (h : Held B N l s) (health : List ℕ) (numbe
         let k = blockAt img B (e .head) (e .size) (indexAt B (size - 1)) in
         let sh = shrink-keeps B N l (held t) w img (before h) e i (placed-at pl) size k (offsetAt B (size - 1)) (hops (indexAt B (e .size - 1)) (indexAt B (size - 1)))
         some (omega arith) (lookup-sound good sl (size - 1) u) in
-        resized-by (laws.truncate-less B N l img health w t number size te i q near k (offsetAt B (size - 1)) (hops (indexAt B (e .size - 1)) (indexAt B (size - 1)))
-        less some (walk-sound good sl (size - 1) u))
+        resized-by (calls.truncate-shrinks B N l img health w t number size te i q near less ∙ calls.shrinks-some B N img w t i size (λ z. omega arith)
+        ∙ ap (shrunk t i size w img) (walk-sound good sl (size - 1) u))
         (ends-truncate h number i b pl size k w img (resized size) (λ x a. refl) (sh .plain ∙ resized-less size old (omega (arith, long)))
         (sh .again) true size code refl)
 
     -- equal
     to-same : size ≡ e .size → Resized true call
     to-same z =
-        resized-by (laws.truncate-same B N l img health w t number size te i q near z)
+        resized-by (calls.truncate-same B N l img health w t number size te i q near (omega arith) z)
         (accepted refl code (resized-same B img size pl (long ∙ sym z)) (record { kept = λ x n a. a; came-in = λ x n a. a; reads = λ x a. refl }) h)
 
     -- larger
@@ -145,7 +146,7 @@ module _ {B N l : ℕ} {s : State} (h : Held B N l s) (health : List ℕ) (numbe
 
     to-more : e .size < size → Resized true call
     to-more m =
-        resized-by (laws.truncate-more B N l img health w t number size te i q near m)
+        resized-by (calls.truncate-more B N l img health w t number size te i q near (omega arith) (λ z. omega arith))
         (larger m (store.store-plain B N l health t w img (before h) (tested-sizes health h te) e (among-at (placed-at pl)) (e .size) src
         (omega (arith, src-long)) (omega (arith, src-long))))
 
@@ -160,20 +161,20 @@ module _ {B N l : ℕ} {s : State} (h : Held B N l s) (health : List ℕ) (numbe
     where
       found-one : (i : ℕ) → number ≤ 65535 → i < t .count → Placed number (file t i) i (held t) → tested ≡ true → findOf t number ≡ found.At i → Resized true call
       found-one i a b pl te q =
-          let c = laws.number-some number fs (negsuc 21) (negsuc 1) (unless (ltb sizeMax size) (negsuc 21) (pos 0)) a (contents.placed-holds B img pl) in
+          let c = number-some number fs (negsuc 21) (negsuc 1) (unless (ltb sizeMax size) (negsuc 21) (pos 0)) a (contents.placed-holds B img pl) in
           ltb-cases sizeMax size (λ z. Resized true call)
-          (λ far. resized-by (laws.truncate-far B N l img health w t number size te i q far)
+          (λ far. resized-by (calls.truncate-far B N l img health w t number size te i q far)
           (refused 21 (omega arith) refl (c ∙ ap (λ (z : Bool). unless z (negsuc 21) (pos 0)) (lt-ltb sizeMax size far)) refl))
           (λ near. all-sizes i b pl te q near (c ∙ ap (λ (z : Bool). unless z (negsuc 21) (pos 0)) (le-ltb sizeMax size near)))
 
       found-by : {r : Found} → FindView t number r → findOf t number ≡ r → tested ≡ true → Resized true call
       found-by (high k) q te =
-          resized-by (laws.truncate-refused B N l img health w t number size te q) (refused 21 (omega arith) refl (laws.number-high number fs _ _ _ k) refl)
+          resized-by (calls.truncate-no-table B N l img health w t number size te q) (refused 21 (omega arith) refl (number-high number fs _ _ _ k) refl)
       found-by (missing a u) q te =
-          resized-by (laws.truncate-missing B N l img health w t number size te q)
-          (refused 1 (omega arith) refl (laws.number-none number fs _ _ _ a (contents.unnamed-holds B img u)) refl)
+          resized-by (calls.truncate-missing B N l img health w t number size te q)
+          (refused 1 (omega arith) refl (number-none number fs _ _ _ a (contents.unnamed-holds B img u)) refl)
       found-by (at i a b pl) q te = found-one i a b pl te q
 
       go : (b : Bool) → tested ≡ b → Resized b call
-      go false te = resized-by (laws.truncate-untested B N l img health w t number size te) (refused 21 (omega arith) refl refl refl)
+      go false te = resized-by (calls.truncate-untested B N l img health w t number size te) (refused 21 (omega arith) refl refl refl)
       go true te = found-by (find-view t number (h .sounds .table)) refl te

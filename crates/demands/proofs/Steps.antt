@@ -26,11 +26,10 @@ use Rattle.demands.specs.Calls.{State, create, remove, changedIn}
 use Rattle.demands.specs.Plain.{PlainFile, unless, wrote, resized}
 use Rattle.demands.specs.Runs.{filesIn}
 use Rattle.demands.proofs.Changes.{create-keeps, remove-keeps}
-use Rattle.demands.proofs.Named.{Unnamed, FindView, high, missing, at, find-view}
+use Rattle.demands.proofs.Named.{Unnamed, FindView, high, missing, at, find-view, number-high, number-none, number-some}
 use Rattle.demands.proofs.Entries.{inserted-ok, removed-ok}
 use Rattle.demands.proofs.Contents as contents
 use Rattle.demands.proofs.Kept.{Held, before, again}
-use Rattle.demands.proofs.Calls as laws
 use Rattle.demands.proofs.Ends.{Ends, accepted, refused}
 
 -- a write of at least one byte to a plain file
@@ -86,8 +85,8 @@ module _ {B N l : ℕ} {s : State} (h : Held B N l s) (number : ℕ) where
       new : findOf t number ≡ found.Missing → number ≤ 65535 → Unnamed number (held t) → t .count < filesMax
           → Ends B N l fits (create number) s (changedIn s (createOf t number))
       new q a u c =
-          by (sym (laws.create-new t number q c)) (accepted refl
-          (laws.number-none number fs _ _ _ a (contents.unnamed-holds B (s .image) u)
+          by (sym (cases.create-accepted t number (findOf t number) refl q c)) (accepted refl
+          (number-none number fs _ _ _ a (contents.unnamed-holds B (s .image) u)
           ∙ ap (λ (b : Bool). unless b (negsuc 11) (pos 0)) (lt-leb filesMax (length fs) (omega (arith, files-count))))
           (rw (held-of more) (contents.create-files B (s .image) number (held t)))
           (record {
@@ -102,15 +101,15 @@ module _ {B N l : ℕ} {s : State} (h : Held B N l s) (number : ℕ) where
           → Ends B N l fits (create number) s (changedIn s (createOf t number))
       full q a u c =
           by (cases.create-full t number (findOf t number) refl q c) (refused 11 (omega arith) refl
-          (laws.number-none number fs _ _ _ a (contents.unnamed-holds B (s .image) u)
+          (number-none number fs _ _ _ a (contents.unnamed-holds B (s .image) u)
           ∙ ap (λ (b : Bool). unless b (negsuc 11) (pos 0)) (le-leb filesMax (length fs) (omega (arith, files-count)))) refl)
 
       go : {r : Found} → FindView t number r → findOf t number ≡ r → Ends B N l fits (create number) s (changedIn s (createOf t number))
       go (high k) q =
-          by (cases.create-refused t number (findOf t number) refl q) (refused 21 (omega arith) refl (laws.number-high number fs _ _ _ k) refl)
+          by (cases.create-refused t number (findOf t number) refl q) (refused 21 (omega arith) refl (number-high number fs _ _ _ k) refl)
       go (at i a b p) q =
           by (cases.create-exists t number (findOf t number) refl i q)
-          (refused 16 (omega arith) refl (laws.number-some number fs _ _ _ a (contents.placed-holds B (s .image) p)) refl)
+          (refused 16 (omega arith) refl (number-some number fs _ _ _ a (contents.placed-holds B (s .image) p)) refl)
       go (missing a u) q =
           ltb-cases (t .count) filesMax (λ b. Ends B N l fits (create number) s (changedIn s (createOf t number))) (new q a u) (full q a u)
 
@@ -128,12 +127,12 @@ module _ {B N l : ℕ} {s : State} (h : Held B N l s) (number : ℕ) where
 
       go : {r : Found} → FindView t number r → findOf t number ≡ r → Ends B N l fits (remove number) s (changedIn s (removeOf t number))
       go (high k) q =
-          by (cases.remove-refused t number (findOf t number) refl q) (refused 21 (omega arith) refl (laws.number-high number fs _ _ _ k) refl)
+          by (cases.remove-refused t number (findOf t number) refl q) (refused 21 (omega arith) refl (number-high number fs _ _ _ k) refl)
       go (missing a u) q =
           by (cases.remove-missing t number (findOf t number) refl q)
-          (refused 1 (omega arith) refl (laws.number-none number fs _ _ _ a (contents.unnamed-holds B (s .image) u)) refl)
+          (refused 1 (omega arith) refl (number-none number fs _ _ _ a (contents.unnamed-holds B (s .image) u)) refl)
       go (at i a b p) q =
-          by (sym (laws.remove-old t number i q)) (accepted refl (laws.number-some number fs _ _ _ a (contents.placed-holds B (s .image) p))
+          by (sym (cases.remove-accepted t number (findOf t number) refl i q)) (accepted refl (number-some number fs _ _ _ a (contents.placed-holds B (s .image) p))
           (rw (held-of rest) (contents.remove-files B (s .image) number (held t)))
           (record {
             kept = λ e n x. rw (held-of rest) (contents.without-kept number e (held t) n x);

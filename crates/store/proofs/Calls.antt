@@ -1,5 +1,5 @@
 -- write and truncate by their cases, in the order of the tests. Assumes nothing.
-use mathlib.Core.Path.{_≡_, refl, ap}
+use mathlib.Core.Path.{_≡_, refl, ap, _∙_}
 use mathlib.Core.Bool.{Bool, true, false}
 use mathlib.Core.List.{List, []}
 use Prim.Native.Nat.{ℕ, _+_, _-_, _≤_, _<_}
@@ -21,7 +21,7 @@ use Rattle.store.specs.declared.Stored.{Stored}
 use Rattle.store.specs.declared.growths.Writing as declared
 use Rattle.store.specs.declared.growths.Writing.the-variants as writing
 use Rattle.store.specs.declared.growths.Wrote.{Wrote}
-use Rattle.store.specs.Write.{Writing, Written, NoRoom, Corrupt, WriteOut}
+use Rattle.store.specs.Write.{zeros, Writing, Written, NoRoom, Corrupt, WriteOut}
 use Rattle.store.specs.Store.{StoreOut, left, written, writtenOf, puts, storeWrite, shrunk, shrinks, storeTruncate}
 use Rattle.store.specs.Put.{wroteOf, WroteGives, finishOf}
 use Rattle.store.specs.Calls.{testedOf, StoreGives}
@@ -93,24 +93,30 @@ module _ (B N l : ℕ) (image health : List ℕ) (w : Lookahead) (t : Table) (nu
 -- ---- truncate
 
 module _ (B N : ℕ) (image : List ℕ) (w : Lookahead) (t : Table) (i size : ℕ) where
+  -- to 0
+  pub shrinks-none : size ≡ 0 → shrinks B N image w t i size ≡ left outcome.Done w (putOf t i 0 nullBlock) image
+  unfolding shrinks
+  shrinks-none z = rw (shrinks, eq-eqb size 0 z)
+
+  pub shrinks-some : (size ≡ 0 → ⊥)
+      → shrinks B N image w t i size ≡ shrunk t i size w image (walkTo image B N (file t i .head) (file t i .size) (size - 1))
+  unfolding shrinks
+  shrinks-some z = rw (shrinks, ne-eqb size 0 z)
+
   pub shrinks-empty : {u : Table} → size ≡ 0 → u ≡ putOf t i 0 nullBlock
       → record { answer = outcome.Done; window = w; table = u } ≡ shrinks B N image w t i size .stored
-  unfolding shrinks
-  shrinks-empty z f = rw (shrinks, eq-eqb size 0 z, f)
+  shrinks-empty z f = rw (shrinks-none z, f)
 
   module _ (z : size ≡ 0 → ⊥) {x : Found} (g : x ≡ walkTo image B N (file t i .head) (file t i .size) (size - 1)) where
     pub shrinks-found : (k off hops : ℕ) {u : Table} → x ≡ found.At k off hops → u ≡ putOf t i size k
         → record { answer = outcome.Done; window = w; table = u } ≡ shrinks B N image w t i size .stored
-    unfolding shrinks
-    shrinks-found k off hops e f = rw (shrinks, ne-eqb size 0 z, ← g, e, f)
+    shrinks-found k off hops e f = rw (shrinks-some z, ← g, e, f)
 
     pub shrinks-damaged : x ≡ found.Damaged → record { answer = outcome.Damaged; window = w; table = t } ≡ shrinks B N image w t i size .stored
-    unfolding shrinks
-    shrinks-damaged e = rw (shrinks, ne-eqb size 0 z, ← g, e)
+    shrinks-damaged e = rw (shrinks-some z, ← g, e)
 
     pub shrinks-refused : x ≡ found.Refused → record { answer = outcome.Damaged; window = w; table = t } ≡ shrinks B N image w t i size .stored
-    unfolding shrinks
-    shrinks-refused e = rw (shrinks, ne-eqb size 0 z, ← g, e)
+    shrinks-refused e = rw (shrinks-some z, ← g, e)
 
   -- card and window stay as they were
   pub shrinks-keeps : (shrinks B N image w t i size .image ≡ image) × (shrinks B N image w t i size .stored .window ≡ w)
@@ -155,9 +161,14 @@ module _ (B N l : ℕ) (image health : List ℕ) (w : Lookahead) (t : Table) (nu
           unfolding storeTruncate testedOf
           truncate-same z = rw (storeTruncate, e, f, le-ltb sizeMax size h, le-ltb size (file t i .size) m, eq-eqb size (file t i .size) z)
 
+          pub truncate-more : (size ≡ file t i .size → ⊥)
+              → storeTruncate B N l image health w t number size
+              ≡ writtenOf t i (puts B N l health t (file t i) (file t i .size) (zeros (size - file t i .size)) w image)
+          unfolding storeTruncate testedOf
+          truncate-more z =
+              rw (storeTruncate, e, f, le-ltb sizeMax size h, le-ltb size (file t i .size) m, ne-eqb size (file t i .size) z)
+
+          -- its zeros are a gap
           pub truncate-grows : (size ≡ file t i .size → ⊥)
               → storeTruncate B N l image health w t number size ≡ writtenOf t i (puts B N l health t (file t i) size [] w image)
-          unfolding storeTruncate testedOf
-          truncate-grows z =
-              rw (storeTruncate, e, f, le-ltb sizeMax size h, le-ltb size (file t i .size) m, ne-eqb size (file t i .size) z)
-              (ap (writtenOf t i) (puts-as-gap B N l health t (file t i) size w image m))
+          truncate-grows z = truncate-more z ∙ ap (writtenOf t i) (puts-as-gap B N l health t (file t i) size w image m)
