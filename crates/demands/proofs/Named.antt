@@ -6,7 +6,7 @@ use Prim.Native.Nat.{ℕ, zero, suc, _-_, _≤_, _<_}
 use native.Mathlib.Nat.{sub-zero}
 use native.Mathlib.Omega.{arith}
 use borrow.Author.Tests.{le-leb, lt-leb}
-use lib.ListN.{length, getD}
+use lib.ListN.{getD}
 use lib.Seq.{getD-take}
 use Rattle.files.specs.declared.Entry.{Entry}
 use Rattle.files.specs.declared.Table.{Table}
@@ -33,14 +33,6 @@ pub data Unnamed (number : ℕ) : List Entry → Type 0 where
 pub placed-at : {number : ℕ} {e : Entry} {m : ℕ} {es : List Entry} → Placed number e m es → AtPlace e m es
 placed-at (first _) = first-place
 placed-at (next _ p) = next-place (placed-at p)
-
-pub placed-number : {number : ℕ} {e : Entry} {m : ℕ} {es : List Entry} → Placed number e m es → e .number ≡ number
-placed-number (first q) = q
-placed-number (next _ p) = placed-number p
-
-pub placed-below : {number : ℕ} {e : Entry} {m : ℕ} {es : List Entry} → Placed number e m es → m < length es
-placed-below (first _) = omega arith
-placed-below (next _ p) = omega (arith, placed-below p)
 
 -- what a search answers
 pub searched-at : (number i j : ℕ) (es : List Entry) → searchOf i number es ≡ found.At j → (i ≤ j) × Placed number (getD es (j - i) noEntry) (j - i) es

@@ -14,12 +14,12 @@ use Rattle.ctz.specs.declared.Found.the-variants.{At}
 use Rattle.ctz.specs.Visits.{visitOf}
 use Rattle.files.specs.declared.Entry.{Entry}
 use Rattle.plain.specs.Lists.{Good}
-use Rattle.plain.specs.Bytes.{bytes, Plain}
+use Rattle.plain.specs.Bytes.{bytes}
 use Rattle.plain.proofs.Walks.{at-cut}
 use Rattle.plain.proofs.Spans.{length-span}
 use Rattle.plain.proofs.Indexes.{used-index}
 use Rattle.plain.proofs.Finding.{lookup-block}
-use Rattle.plain.proofs.Plain.{plain, plain-shrink}
+use Rattle.plain.proofs.Files.{shrink-found}
 use Rattle.window.specs.declared.Lookahead.{Lookahead}
 use Rattle.window.specs.Scan.{Seen, unseen, has, listedOf}
 use Rattle.window.proofs.Cases.{no-both}
@@ -52,10 +52,10 @@ pub shrink-keeps : (B N l : ℕ) (files : List Entry) (w : Lookahead) (img : Lis
     → (e : Entry) (m : ℕ) → AtPlace e m files → (q k o h : ℕ) → 0 < q → q ≤ e .size → lookupOf B N img (e .head) (e .size) (q - 1) ≡ At k o h
     → Shrunk B N l files e m k q w img
 shrink-keeps B N l files w img bf e m place q k o h p le lk = record {
-  plain = ps .is;
+  plain = front .1;
   again = record {
     good = bf .good;
-    sounds = sounds-set B N img m e′ (ps .good) (ps .sound) (bf .sounds);
+    sounds = sounds-set B N img m e′ fits (front .0) (bf .sounds);
     valid = bf .valid;
     clean = subst (λ (vs : List Seen). Clean N (listedOf vs) w) (sym (visits-set B N img files m e′))
         (fewer-clean N (listedBy B N files img) (listedOf (set (visitsOf B N img files) m v)) w (became-set (visitsOf B N img files) m v [] mine) (bf .clean));
@@ -74,8 +74,11 @@ shrink-keeps B N l files w img bf e m place q k o h p le lk = record {
     sl : SoundList img B N (e .head) (e .size)
     sl = of-sounds (bf .sounds) (among-at place) .1
 
-    ps : Plain B N img k q (take q (bytes img B (e .head) (e .size)))
-    ps = plain-shrink (plain good sl) q p le k o h lk
+    fits : Good B N img q
+    fits = record { good = good .good; fits = omega (arith, good .fits) }
+
+    front : SoundList img B N k q × (bytes img B k q ≡ take q (bytes img B (e .head) (e .size)))
+    front = shrink-found good sl q p le k o h lk
 
     head-is : blockAt img B (e .head) (e .size) (indexAt B (q - 1)) ≡ k
     head-is = lookup-block good sl (q - 1) k o h (omega arith) lk
@@ -87,8 +90,8 @@ shrink-keeps B N l files w img bf e m place q k o h p le lk = record {
 
     mine : Became (getD (visitsOf B N img files) m unseen .blocks) [] (v .blocks)
     mine b y n = else-false (has (v .blocks) b) (λ t.
-        (let r = visit-told B N img k q (ps .good) (ps .sound) .only b t in
+        (let r = visit-told B N img k q fits (front .0) .only b t in
         let y′ : has (visitOf B N img (e .head) (e .size) .handed) b ≡ false = subst (λ (s : Seen). has (s .blocks) b ≡ false) (visits-at B N img place) y in
         no-both (has (visitOf B N img (e .head) (e .size) .handed) b)
-        (subst (λ (z : ℕ). has (visitOf B N img (e .head) (e .size) .handed) z ≡ true) (sym (cut (r .0) (used-index (ps .good) (r .0) (r .1))) ∙ r .2)
+        (subst (λ (z : ℕ). has (visitOf B N img (e .head) (e .size) .handed) z ≡ true) (sym (cut (r .0) (used-index fits (r .0) (r .1))) ∙ r .2)
         (visit-told B N img (e .head) (e .size) good sl .all (r .0) (omega (arith, r .1)))) y′))

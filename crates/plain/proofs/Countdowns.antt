@@ -2,27 +2,12 @@
 use mathlib.Core.Path.{_≡_, refl, sym, ap, _∙_}
 use mathlib.Core.Bool.{Bool, true, false, _||_}
 use mathlib.Core.List.{List, [], _∷_}
-use Prim.Native.Nat.{ℕ, zero, suc, _-_, _≤_}
+use Prim.Native.Nat.{ℕ, zero, suc, _≤_}
 use native.Mathlib.Omega.{arith}
 use borrow.Author.Tests.{eqb-true, eqb-false, eq-eqb}
 use lib.Dec.{eqb}
-use lib.ListN.{length, getD}
 use Rattle.audit.specs.Check.{among}
 use Rattle.plain.specs.Lists.{countdown}
-
--- one for each index
-pub length-countdown : (f : ℕ → ℕ) (i : ℕ) → length (countdown f i) ≡ suc i
-unfolding countdown
-length-countdown f zero = refl
-length-countdown f (suc i) = ap suc (length-countdown f i)
-
--- the j-th is that of index i - j
-pub getD-countdown : (f : ℕ → ℕ) (i j : ℕ) → j ≤ i → getD (countdown f i) j 0 ≡ f (i - j)
-unfolding countdown
-getD-countdown f zero zero h = refl
-getD-countdown f zero (suc j) h = absurd (omega arith)
-getD-countdown f (suc i) zero h = ap f (omega arith)
-getD-countdown f (suc i) (suc j) h = getD-countdown f i j (omega arith) ∙ ap f (omega arith)
 
 -- equal values make equal countdowns
 pub countdown-same : (f g : ℕ → ℕ) (i : ℕ) → ((j : ℕ) → j ≤ i → f j ≡ g j) → countdown f i ≡ countdown g i

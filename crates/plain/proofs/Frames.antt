@@ -3,7 +3,7 @@
 use mathlib.Core.Path.{_≡_, refl, sym, ap, _∙_}
 use mathlib.Core.Bool.{Bool, true, false}
 use mathlib.Core.List.{List}
-use Prim.Native.Nat.{ℕ, _+_, _-_, _*_, _≤_, _<_, min}
+use Prim.Native.Nat.{ℕ, _+_, _-_, _*_, _<_, min}
 use native.Mathlib.Omega.{arith}
 use borrow.Author.Tests.{ltb-true, ltb-false, eqb-true, eqb-false}
 use lib.Dec.{ltb, eqb}
@@ -39,18 +39,6 @@ block-same image image′ B k l e =
     (λ i h.
     let b : i < B = omega (arith, h, length-take B (drop (k * B) image)) in
     block-byte image B k i b ∙ e i b ∙ sym (block-byte image′ B k i b))
-
--- where only blocks that satisfy T were touched, and the list has none of these
-pub same-of : (image image′ : List ℕ) (B head size : ℕ) (T : ℕ → Type 0) → length image ≡ length image′
-    → ((k o : ℕ) → (T k → ⊥) → o < B → getD image (k * B + o) 0 ≡ getD image′ (k * B + o) 0)
-    → (0 < size → (i : ℕ) → i ≤ indexAt B (size - 1) → T (at (pointer image B) head (indexAt B (size - 1)) i) → ⊥)
-    → SameBlocks image image′ B head size
-same-of image image′ B head size T l e n = record {
-  long = l;
-  block = λ q i h.
-      let k = at (pointer image B) head (indexAt B (size - 1)) i in
-      block-same image image′ B k l (λ o b. e k o (n q i h) b);
-}
 
 module _ {image image′ : List ℕ} {B head size : ℕ} (a : SameBlocks image image′ B head size) where
   abbrev top : ℕ

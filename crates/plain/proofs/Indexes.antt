@@ -1,19 +1,19 @@
 -- Positions and indexes of a list: which indexes a size uses, and runs of positions in one block. Assumes nothing.
-use mathlib.Core.Path.{_≡_, refl, subst}
+use mathlib.Core.Path.{_≡_, refl}
 use mathlib.Core.Logic.{_⊎_, inl, inr}
 use mathlib.Core.Bool.{Bool, true, false}
 use mathlib.Core.List.{List}
-use Prim.Native.Nat.{ℕ, zero, suc, _+_, _-_, _*_, _^_, _≤_, _<_}
+use Prim.Native.Nat.{ℕ, zero, suc, _+_, _-_, _^_, _≤_, _<_}
 use native.Mathlib.Nat.{eq-or-lt-of-le}
 use native.Mathlib.Omega.{arith}
 use borrow.Author.Tests.{ltb-true, ltb-false}
 use lib.Dec.{ltb, leb}
 use lib.ListN.{length}
-use Rattle.layout.specs.Layout.{InBlock, onward, indexAt, offsetAt, start, pointers}
+use Rattle.layout.specs.Layout.{InBlock, onward, indexAt, offsetAt, start}
 use Rattle.layout.specs.Place.{Served}
 use Rattle.layout.proofs.Laws.{start-mono}
 use Rattle.layout.proofs.Places.{start-suc, index-mono, offset-of}
-use Rattle.layout.proofs.Served.{served, index-in, index-found, index-below, pointers-fit}
+use Rattle.layout.proofs.Served.{served, index-in, index-found, index-below}
 use Rattle.card.specs.Card.{Card}
 use Rattle.card.proofs.Cards.{card}
 use Rattle.plain.specs.Lists.{Good}
@@ -99,9 +99,3 @@ module _ {B N : ℕ} {image : List ℕ} {size : ℕ} (g : Good B N image size) w
   -- and only such
   pub index-used : (i : ℕ) → 0 < size → i ≤ indexAt B (size - 1) → start B i < size
   index-used i p h = omega (arith, start-mono B i (indexAt B (size - 1)) h, in-block (size - 1) (omega arith) .from)
-
-  -- the pointers of an index in use leave room for data in its block
-  pub pointers-room : (i : ℕ) → 0 < size → i ≤ indexAt B (size - 1) → 4 * pointers i < B
-  pointers-room i p h =
-      let r = index-met B (size - 1) i h in
-      subst (λ (j : ℕ). 4 * pointers j < B) (r .2) (pointers-fit (within (r .0) (omega arith)))

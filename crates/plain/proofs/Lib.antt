@@ -1,6 +1,5 @@
 -- The theorems on sound lists.
 pub mod Walks
-pub mod Pigeons
 pub mod Lookups
 pub mod Countdowns
 pub mod Visits
@@ -13,8 +12,4 @@ pub mod Reading
 pub mod Checking
 pub mod Faults
 pub mod Frames
-pub mod Filling
-pub mod Following
-pub mod Plain
-pub mod Cells
 mod Examples

@@ -2,19 +2,16 @@
 use mathlib.Core.Path.{_≡_, refl, sym, ap, _∙_}
 use mathlib.Core.Bool.{Bool, true, false}
 use mathlib.Core.List.{List}
-use Prim.Native.Nat.{ℕ, zero, suc, _-_, _%_, _≤_, _<_}
+use Prim.Native.Nat.{ℕ, zero, suc, _%_, _≤_, _<_}
 use native.Mathlib.Omega.{arith}
 use borrow.Author.Tests.{lt-ltb, eqb-false}
 use lib.Count.{trailingZeros}
 use lib.Dec.{eqb}
-use lib.ListN.{length, getD}
 use Rattle.hops.specs.Walk.{ctz}
 use Rattle.ctz.specs.Lists.{at, Sound}
 use Rattle.ctz.specs.Visits.{Visited, visit, hand, nextBlock, nextAfter, reads-two}
-use Rattle.audit.specs.Check.{among}
 use Rattle.plain.specs.Lists.{countdown}
 use Rattle.plain.proofs.Walks.{at-top, at-next}
-use Rattle.plain.proofs.Countdowns.{length-countdown, getD-countdown, among-countdown, countdown-among}
 
 -- an even number has a trailing zero
 ctz-even : (n : ℕ) → n % 2 ≡ 0 → 1 ≤ ctz n
@@ -71,51 +68,3 @@ module _ {ptr : ℕ → ℕ → ℕ} {N head top : ℕ} (s : Sound ptr N head to
   -- the visit hands over exactly at top, .., at 0, and meets no -84
   pub visited : visit ptr N top head false 0 ≡ whole (countdown blk top)
   visited = ap (λ (k : ℕ). visit ptr N top k false 0) (sym (at-top ptr head top)) ∙ visit-from top (omega arith) false 0 (free top 0)
-
--- ---- what is handed over, by place and as a test
-
-module _ {ptr : ℕ → ℕ → ℕ} {N head top : ℕ} (s : Sound ptr N head top) where
-  abbrev handed-over : List ℕ
-  handed-over = visit ptr N top head false 0 .handed
-
-  handed-is : handed-over ≡ countdown (at ptr head top) top
-  handed-is = ap (λ (v : Visited). v .handed) (visited s)
-
-  -- as many numbers as the list has blocks
-  pub handed-count : length handed-over ≡ suc top
-  handed-count = ap length handed-is ∙ length-countdown (at ptr head top) top
-
-  -- the j-th of them is the block j indexes below the top
-  pub handed-at : (j : ℕ) → j ≤ top → getD handed-over j 0 ≡ at ptr head top (top - j)
-  handed-at j h = ap (λ (l : List ℕ). getD l j 0) handed-is ∙ getD-countdown (at ptr head top) top j h
-
-  -- each block of the list is handed over
-  pub handed-each : (i : ℕ) → i ≤ top → getD handed-over (top - i) 0 ≡ at ptr head top i
-  handed-each i h = let e : top - (top - i) ≡ i = omega arith in handed-at (top - i) (omega arith) ∙ ap (at ptr head top) e
-
-  -- and none twice
-  pub handed-once : (i j : ℕ) → i < length handed-over → j < length handed-over → getD handed-over i 0 ≡ getD handed-over j 0 → i ≡ j
-  handed-once i j h l e =
-      let c = handed-count in
-      let q = s .apart (top - i) (top - j) (omega arith) (omega arith) (sym (handed-at i (omega arith)) ∙ e ∙ handed-at j (omega arith)) in
-      omega arith
-
-  abbrev listed-by : ℕ → Bool
-  listed-by k = among k handed-over
-
-  turned : (k : ℕ) → listed-by k ≡ among k (countdown (at ptr head top) top)
-  turned k = ap (among k) handed-is
-
-  -- every block of the list is listed (01, "Listed means handed over by the visit")
-  pub listed : (i : ℕ) → i ≤ top → listed-by (at ptr head top i) ≡ true
-  listed i h = turned (at ptr head top i) ∙ among-countdown (at ptr head top) top i h
-
-  -- and what is listed is a block of the list
-  pub listed-index : (k : ℕ) → listed-by k ≡ true → (i : ℕ) × (i ≤ top) × (at ptr head top i ≡ k)
-  listed-index k h = countdown-among (at ptr head top) top k (sym (turned k) ∙ h)
-
-  -- what a growth asks of a new block
-  pub unlisted : (k : ℕ) → listed-by k ≡ false → (i : ℕ) → i ≤ top → at ptr head top i ≡ k → ⊥
-  unlisted k h i l e =
-      let q : true ≡ false = sym (listed i l) ∙ ap (λ (n : ℕ). listed-by n) e ∙ h in
-      let z : _≡_ {A = ℕ} 0 1 = cc in omega arith

@@ -13,12 +13,6 @@ module _ (ptr : ℕ → ℕ → ℕ) where
   down-add head d zero = ap (down ptr head) (sym (add-zero d))
   down-add head d (suc e) = ap (λ (k : ℕ). ptr k 0) (down-add head d e) ∙ ap (down ptr head) (sym (add-suc d e))
 
-  -- the same walk, its first step first
-  pub down-first : (head d : ℕ) → down ptr head (suc d) ≡ down ptr (ptr head 0) d
-  unfolding down
-  down-first head zero = refl
-  down-first head (suc d) = ap (λ (k : ℕ). ptr k 0) (down-first head d)
-
   module _ (head top : ℕ) where
     -- the list's last block is its head
     pub at-top : at ptr head top top ≡ head

@@ -1,13 +1,11 @@
 -- The plain file of a list (01, "How a list is laid out"): data fills the blocks behind their pointers, block after block, and position p
 -- in index i lies at its offset.
-use mathlib.Core.Path.{_≡_}
 use mathlib.Core.List.{List, [], _∷_}
 use Prim.Native.Nat.{ℕ, zero, suc, _-_}
 use lib.ListN.{getD}
 use Rattle.layout.specs.Layout.{indexAt, offsetAt}
 use Rattle.card.specs.Blocks.{blockOf, pointer}
-use Rattle.ctz.specs.Lists.{at, SoundList}
-use Rattle.plain.specs.Lists.{Good}
+use Rattle.ctz.specs.Lists.{at}
 
 -- n values of f, from position a on
 unfoldable pub span : (ℕ → ℕ) → ℕ → ℕ → List ℕ
@@ -21,9 +19,3 @@ byteAt image B head top p = getD (blockOf image B (at (pointer image B) head top
 -- the plain file of a list of `size` bytes: its bytes in order
 unfoldable pub bytes : List ℕ → ℕ → ℕ → ℕ → List ℕ
 bytes image B head size = span (byteAt image B head (indexAt B (size - 1))) 0 size
-
--- The list (head, size) of the image is sound, on a card and with a size that are not refused, and its plain file is bs.
-pub record Plain (B N : ℕ) (image : List ℕ) (head size : ℕ) (bs : List ℕ) : Type 0 where
-  pub good : Good B N image size
-  pub sound : SoundList image B N head size
-  pub is : bytes image B head size ≡ bs

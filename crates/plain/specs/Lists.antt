@@ -2,10 +2,9 @@
 use mathlib.Core.Path.{_≡_}
 use mathlib.Core.Bool.{true}
 use mathlib.Core.List.{List, [], _∷_}
-use Prim.Native.Nat.{ℕ, zero, suc, _+_, _-_, _*_, _^_, _≤_, _<_}
-use lib.ListN.{length, getD}
-use Rattle.span.specs.Words.{wordAt}
-use Rattle.layout.specs.Layout.{start, pointers, indexAt}
+use Prim.Native.Nat.{ℕ, zero, suc, _-_, _≤_, _<_}
+use lib.ListN.{length}
+use Rattle.layout.specs.Layout.{indexAt}
 use Rattle.card.specs.Blocks.{blockOf, pointer}
 use Rattle.card.specs.Card.{goodCard}
 use Rattle.ctz.specs.Lists.{at}
@@ -26,19 +25,3 @@ pub record SameBlocks (image image′ : List ℕ) (B head size : ℕ) : Type 0 w
 unfoldable pub countdown : (ℕ → ℕ) → ℕ → List ℕ
 countdown f zero = f 0 ∷ []
 countdown f (suc i) = f (suc i) ∷ countdown f i
-
--- ---- the same by place, for crates that store by place
-
--- byte o of block k, which starts at byte k times B
-abbrev pub cell : List ℕ → ℕ → ℕ → ℕ → ℕ
-cell image B k o = getD image (k * B + o) 0
-
--- pointer x of block k: four bytes of the image, low byte first
-unfoldable pub cells : List ℕ → ℕ → ℕ → ℕ → ℕ
-cells image B k x = wordAt image (k * B + x * 4)
-
--- The blocks f carry a list of s bytes: index i is in use if its data starts below s.
-pub record Holds (ptr : ℕ → ℕ → ℕ) (B N : ℕ) (f : ℕ → ℕ) (s : ℕ) : Type 0 where
-  pub low : (i : ℕ) → start B i < s → f i < N
-  pub apart : (i j : ℕ) → start B i < s → start B j < s → f i ≡ f j → i ≡ j
-  pub points : (i x : ℕ) → start B i < s → x < pointers i → ptr (f i) x ≡ f (i - 2 ^ x)
