@@ -11,6 +11,7 @@ use Rattle.card.specs.Card.{goodCard}
 use Rattle.ctz.specs.Lists.{SoundList}
 use Rattle.ctz.specs.Visits.{visitOf}
 use Rattle.files.specs.declared.Entry.{Entry}
+use Rattle.files.proofs.Replaced.{altered}
 use Rattle.plain.specs.Lists.{Good, SameBlocks}
 use Rattle.plain.proofs.Indexes.{card-of}
 use Rattle.window.specs.declared.Lookahead.{Lookahead}
@@ -60,10 +61,6 @@ module _ (B N : ℕ) (img : List ℕ) where
   visits-at first = refl
   visits-at (next a) = visits-at a
 
--- the file with its new head and size: the store's change of the table
-abbrev pub changedTo : Entry → ℕ → ℕ → Entry
-changedTo e size h = record { number = e .number; size = size; head = h }
-
 -- ---- after a write
 
 module _ (B N l : ℕ) (files : List Entry) (w : Lookahead) (img : List ℕ) (bf : Before B N l files w img) (o : WriteOut Lookahead)
@@ -86,7 +83,7 @@ module _ (B N l : ℕ) (files : List Entry) (w : Lookahead) (img : List ℕ) (bf
   module _ (e : Entry) (m : ℕ) (at : AtPlace e m files) (pos : ℕ) (src : List ℕ) (fits : pos + length src ≤ 2147483647) (h : ℕ) (out : List ℕ)
       (st : Stored B N l files e pos src img o (newSize e pos src) h out) where
     abbrev e′ : Entry
-    e′ = changedTo e (newSize e pos src) h
+    e′ = altered e (newSize e pos src) h
 
     good : Good B N img (e .size)
     good = of-sounds (bf .sounds) (among-at at) .0
@@ -123,7 +120,7 @@ module _ (B N l : ℕ) (files : List Entry) (w : Lookahead) (img : List ℕ) (bf
             (visit-told B N img (e .head) (e .size) good sl .all i (under i x))) p′
 
     -- written: the file's entry is the new one
-    pub stored-again : Before B N l (set files m (changedTo e (newSize e pos src) h)) (o .rest) (o .image)
+    pub stored-again : Before B N l (set files m (altered e (newSize e pos src) h)) (o .rest) (o .image)
     stored-again = record {
       good = good-after;
       sounds = sounds-set B N (o .image) m e′ good′ (st .list) (same-sounds B N img (o .image) long (bf .sounds) sb);

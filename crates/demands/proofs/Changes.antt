@@ -8,11 +8,12 @@ use lib.Dec.{ltb, eqb}
 use lib.ListN.{set}
 use Rattle.ctz.specs.Lists.{SoundList}
 use Rattle.ctz.specs.Visits.{Visited}
+use Rattle.ctz.proofs.Visiting.{visit-empty}
 use Rattle.files.specs.declared.Entry.{Entry}
 use Rattle.files.specs.Table.{nullBlock}
 use Rattle.files.specs.Change.{emptyFile, insertOf, withoutOf}
+use Rattle.files.proofs.Replaced.{altered}
 use Rattle.plain.specs.Lists.{Good}
-use Rattle.plain.proofs.Finding.{visit-empty}
 use Rattle.window.specs.declared.Lookahead.{Lookahead}
 use Rattle.window.specs.Scan.{Seen, listedOf}
 use Rattle.windows.specs.Call.{Became}
@@ -22,7 +23,7 @@ use Rattle.windows.proofs.Listed.{became-set}
 use Rattle.alloc.specs.Visits.{seenOf, visitsOf}
 use Rattle.demands.proofs.Tables.{listedBy, SoundFiles, none, one}
 use Rattle.demands.proofs.Store.{Before}
-use Rattle.demands.proofs.Again.{sounds-set, visits-set, changedTo}
+use Rattle.demands.proofs.Again.{sounds-set, visits-set}
 
 module _ (B N l : ℕ) (w : Lookahead) (img : List ℕ) where
   -- a table of sound lists that lists no more than another, with its window
@@ -56,7 +57,7 @@ module _ (B N l : ℕ) (w : Lookahead) (img : List ℕ) where
     none-sound = record { null = λ z. refl; list = λ p. absurd (omega arith) }
 
     no-blocks : (number : ℕ) → seenOf B N img (emptyFile number) .blocks ≡ []
-    no-blocks number = ap (λ (v : Visited). v .handed) (visit-empty none-good none-sound refl)
+    no-blocks number = ap (λ (v : Visited). v .handed) (visit-empty B N img nullBlock 0 refl)
 
     -- an empty file put in
     sounds-insert : (number : ℕ) (es : List Entry) → SoundFiles B N img es → SoundFiles B N img (insertOf number es)
@@ -112,9 +113,9 @@ module _ (B N l : ℕ) (w : Lookahead) (img : List ℕ) where
     remove-keeps number = fewer files (withoutOf number files) bf (sounds-without number files (bf .sounds)) (without-became number files)
 
     -- truncate to 0 gives the null head
-    pub empty-keeps : (e : Entry) (m : ℕ) → Before B N l (set files m (changedTo e 0 nullBlock)) w img
+    pub empty-keeps : (e : Entry) (m : ℕ) → Before B N l (set files m (altered e 0 nullBlock)) w img
     empty-keeps e m =
-        fewer files (set files m (changedTo e 0 nullBlock)) bf (sounds-set B N img m (changedTo e 0 nullBlock) none-good none-sound (bf .sounds))
-        (subst (λ (vs : List Seen). Became (listedBy B N files img) [] (listedOf vs)) (sym (visits-set B N img files m (changedTo e 0 nullBlock)))
-        (became-set (visitsOf B N img files) m (seenOf B N img (changedTo e 0 nullBlock)) []
+        fewer files (set files m (altered e 0 nullBlock)) bf (sounds-set B N img m (altered e 0 nullBlock) none-good none-sound (bf .sounds))
+        (subst (λ (vs : List Seen). Became (listedBy B N files img) [] (listedOf vs)) (sym (visits-set B N img files m (altered e 0 nullBlock)))
+        (became-set (visitsOf B N img files) m (seenOf B N img (altered e 0 nullBlock)) []
         (λ b p n. rw (no-blocks (e .number)) (not-in-none b))))

@@ -3,10 +3,10 @@ use mathlib.Core.Path.{_≡_, refl, ap, ap₂, _∙_, subst}
 use mathlib.Core.Logic.{_⊎_, inl, inr}
 use mathlib.Core.Bool.{Bool, true, false}
 use mathlib.Core.List.{List, [], _∷_, map}
-use Prim.Native.Nat.{ℕ, suc}
+use Prim.Native.Nat.{ℕ}
 use borrow.Author.Tests.{eq-eqb, ne-eqb, eqb-true}
 use lib.Dec.{ltb, eqb}
-use lib.ListN.{length, set, take}
+use lib.ListN.{set}
 use Rattle.files.specs.declared.Entry.{Entry}
 use Rattle.files.specs.Change.{emptyFile, insertOf, withoutOf}
 use Rattle.plain.specs.Bytes.{span, bytes}
@@ -14,15 +14,6 @@ use Rattle.demands.specs.Came.{Among, here, there}
 use Rattle.demands.specs.Plain.{PlainFile, holds, bytesOf, plainCreate, plainRemove, plainChange}
 use Rattle.demands.specs.Runs.{fileIn}
 use Rattle.demands.proofs.Named.{Placed, first, next, Unnamed, none, one}
-
--- how many there are
-pub map-length : {A B : Type 0} (f : A → B) (xs : List A) → length (map f xs) ≡ length xs
-map-length f [] = refl
-map-length f (x ∷ xs) = ap suc (map-length f xs)
-
-pub take-all : (xs : List ℕ) → take (length xs) xs ≡ xs
-take-all [] = refl
-take-all (x ∷ xs) = ap (λ (l : List ℕ). x ∷ l) (take-all xs)
 
 -- how these files read
 abbrev pub Plainly : ℕ → List ℕ → List Entry → List PlainFile

@@ -9,6 +9,7 @@ use Rattle.files.specs.declared.Entry.{Entry}
 use Rattle.files.specs.declared.Table.{Table}
 use Rattle.files.specs.Table.{held, file}
 use Rattle.files.specs.Change.{putOf}
+use Rattle.files.proofs.Replaced.{altered}
 use Rattle.plain.specs.Bytes.{bytes}
 use Rattle.window.specs.declared.Lookahead.{Lookahead}
 use Rattle.store.specs.declared.Outcome.the-variants as outcome
@@ -19,7 +20,6 @@ use Rattle.demands.specs.Plain.{plainAfter, plainCode, plainChange, grow
 use Rattle.demands.specs.Runs.{filesIn}
 use Rattle.demands.specs.Demands.{Others}
 use Rattle.demands.proofs.Store.{Before}
-use Rattle.demands.proofs.Again.{changedTo}
 use Rattle.demands.proofs.Named.{Placed}
 use Rattle.demands.proofs.Contents.{Read, change-files, set-kept, set-from}
 use Rattle.demands.proofs.Kept.{Held, held-put, put-held}
@@ -41,7 +41,7 @@ ends-same p f h = accepted refl p f (record { kept = λ e n a. a; came-in = λ e
 module _ {B N l : ℕ} {s : State} (h : Held B N l s) (number i : ℕ) (b : i < s .table .count) (p : Placed number (file (s .table) i) i (held (s .table)))
     (size head : ℕ) (w : Lookahead) (image : List ℕ) (g : List ℕ → List ℕ) (r : Read B (s .image) image (held (s .table)))
     (is : bytes image B head size ≡ g (bytes (s .image) B (file (s .table) i .head) (file (s .table) i .size)))
-    (bf : Before B N l (set (held (s .table)) i (changedTo (file (s .table) i) size head)) w image) where
+    (bf : Before B N l (set (held (s .table)) i (altered (file (s .table) i) size head)) w image) where
   abbrev t : Table
   t = s .table
 
@@ -49,7 +49,7 @@ module _ {B N l : ℕ} {s : State} (h : Held B N l s) (number i : ℕ) (b : i < 
   s′ = record { window = w; table = putOf t i size head; image = image }
 
   abbrev e′ : Entry
-  e′ = changedTo (file t i) size head
+  e′ = altered (file t i) size head
 
   files : filesIn B s′ ≡ plainChange number g (filesIn B s)
   files = rw (held-put t i size head b) (change-files B (s .image) image g p r e′ refl is)

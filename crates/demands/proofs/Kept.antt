@@ -1,11 +1,11 @@
 -- The invariant of the store calls, for tables as values: sound lists, and a window that is valid and clean for them. Assumes nothing.
-use mathlib.Core.Path.{_≡_, refl, sym, _∙_, subst}
+use mathlib.Core.Path.{_≡_, sym, _∙_, subst}
 use mathlib.Core.Bool.{true, _&&_, and-true}
 use mathlib.Core.List.{List, [], _∷_}
 use Prim.Native.Nat.{ℕ, zero, suc, _-_, _≤_, _<_}
 use native.Mathlib.Nat.{sub-self}
 use native.Mathlib.Omega.{arith}
-use lib.ListN.{length, set, length-set}
+use lib.ListN.{length, set}
 use lib.Seq.{take-set-lt}
 use Rattle.layout.specs.Layout.{indexAt}
 use Rattle.card.specs.Blocks.{pointer}
@@ -16,8 +16,9 @@ use Rattle.files.specs.declared.Entry.{Entry}
 use Rattle.files.specs.declared.Table.{Table}
 use Rattle.files.specs.Table.{held, file, filesOk, tableOk, headMax}
 use Rattle.files.specs.Change.{putOf}
-use Rattle.files.proofs.Laws.{first-good, rest-ok, slots-ok, count-ok, held-ok, table-ok}
+use Rattle.files.proofs.Laws.{first-good, rest-ok, held-ok}
 use Rattle.files.proofs.Tests.{both-right}
+use Rattle.files.proofs.Replaced.{Fitting, altered, put-ok}
 use Rattle.plain.specs.Lists.{Good}
 use Rattle.window.specs.declared.Lookahead.{Lookahead}
 use Rattle.window.specs.Value.{lookaheadFits, Valid, Sizes}
@@ -28,9 +29,8 @@ use Rattle.demands.specs.Calls.{State}
 use Rattle.demands.specs.Came.{Among, here, there, Sounds}
 use Rattle.demands.proofs.Tables.{listedBy, SoundFiles, none, one, of-sounds}
 use Rattle.demands.proofs.Store.{Before}
-use Rattle.demands.proofs.Again.{AtPlace, changedTo}
+use Rattle.demands.proofs.Again.{AtPlace}
 use Rattle.demands.proofs.Named.{Placed, first, next, placed-at}
-use Rattle.demands.proofs.Entries.{Fine, set-ok}
 
 -- What holds before each store call on sound lists, and after it.
 pub record Held (B N l : ℕ) (s : State) : Type 0 where
@@ -50,9 +50,9 @@ sound-files B N s so = go 0 (held (s .table)) (held-ok (s .table) (so .table)) (
         one (record { good = so .card; fits = first-good least e es q .size-le }) (f e here) (go (suc (e .number)) es (rest-ok least e es q) (λ x a. f x (there a)))
 
 -- a sound list can stand in a table
-pub sound-fine : {B N : ℕ} {img : List ℕ} (e : Entry) → Good B N img (e .size) → SoundList img B N (e .head) (e .size) → Fine e
+sound-fits : {B N : ℕ} {img : List ℕ} (e : Entry) → Good B N img (e .size) → SoundList img B N (e .head) (e .size) → Fitting (e .size) (e .head)
 unfolding down
-sound-fine {B} {N} {img} e g l = record { size-le = g .fits; head-null = l .null; head-le = low }
+sound-fits {B} {N} {img} e g l = record { size-le = g .fits; head-null = l .null; head-le = low }
   where
     low : zero < e .size → e .head ≤ headMax
     low p =
@@ -76,24 +76,21 @@ again t w img ok b = record {
 }
 
 -- one file with another size and head: the files of that table
-pub held-put : (t : Table) (i size h : ℕ) → i < t .count → held (putOf t i size h) ≡ set (held t) i (changedTo (file t i) size h)
-held-put t i size h b = take-set-lt (t .count) (t .files) i (changedTo (file t i) size h) b
+pub held-put : (t : Table) (i size h : ℕ) → i < t .count → held (putOf t i size h) ≡ set (held t) i (altered (file t i) size h)
+held-put t i size h b = take-set-lt (t .count) (t .files) i (altered (file t i) size h) b
 
 among-set : {e : Entry} {m : ℕ} {es : List Entry} (e′ : Entry) → AtPlace e m es → Among e′ (set es m e′)
 among-set e′ AtPlace.first = here
 among-set e′ (AtPlace.next a) = there (among-set e′ a)
 
 pub put-held : {B N l : ℕ} (t : Table) (number i size h : ℕ) (w : Lookahead) (img : List ℕ) → tableOk t ≡ true → i < t .count
-    → Placed number (file t i) i (held t) → Before B N l (set (held t) i (changedTo (file t i) size h)) w img
+    → Placed number (file t i) i (held t) → Before B N l (set (held t) i (altered (file t i) size h)) w img
     → Held B N l (record { window = w; table = putOf t i size h; image = img })
 put-held {B} {N} {l} t number i size h w img ok b p bf =
-    let e′ : Entry = changedTo (file t i) size h in
-    let es = held-put t i size h b in
+    let e′ : Entry = altered (file t i) size h in
     let so = of-sounds (bf .sounds) (among-set e′ (placed-at p)) in
-    let f : filesOk 0 (held (putOf t i size h)) ≡ true = rw es (set-ok 0 p e′ refl (sound-fine e′ (so .0) (so .1)) (held-ok t ok)) in
-    again (putOf t i size h) w img
-    (table-ok (putOf t i size h) (length-set (t .files) i e′ ∙ slots-ok t ok) (count-ok t ok) f)
-    (subst (λ (fs : List Entry). Before B N l fs w img) (sym es) bf)
+    again (putOf t i size h) w img (put-ok t i size h ok b (sound-fits e′ (so .0) (so .1)))
+    (subst (λ (fs : List Entry). Before B N l fs w img) (sym (held-put t i size h b)) bf)
 
 -- ---- the tests in front of a write
 

@@ -7,7 +7,6 @@ pub mod Again
 pub mod Truncates
 pub mod Changes
 pub mod Named
-pub mod Entries
 pub mod Contents
 pub mod Kept
 pub mod Ends

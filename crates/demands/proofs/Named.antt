@@ -15,6 +15,7 @@ use Rattle.files.specs.declared.Found.the-variants as found
 use Rattle.files.specs.Table.{numberMax, noEntry, held, file, tableOk}
 use Rattle.files.specs.Find.{searchOf, findOf}
 use Rattle.files.proofs.Tests.{eqb-cases, leb-cases}
+use Rattle.files.proofs.Searches.{search-answers}
 use Rattle.files.proofs.Cases.{find-no-number, find-is, found-at}
 use Rattle.demands.specs.Plain.{PlainFile, holds, onFile}
 use Rattle.demands.proofs.Again.{AtPlace}
@@ -62,16 +63,6 @@ searched-missing number i (e ∷ es) q =
     (λ p h. one p (searched-missing number (suc i) es h))
     q
 
-never-refused : (number i : ℕ) (es : List Entry) → searchOf i number es ≡ found.Refused → ⊥
-unfolding searchOf
-never-refused number i [] q = let z : _≡_ {A = ℕ} 0 1 = cc in omega arith
-never-refused number i (e ∷ es) q =
-    eqb-cases (e .number) number
-    (λ b. (elim b [ true ↦ found.At i | false ↦ searchOf (suc i) number es ]) ≡ found.Refused → ⊥)
-    (λ p h. let z : _≡_ {A = ℕ} 0 1 = cc in omega arith)
-    (λ p h. never-refused number (suc i) es h)
-    q
-
 -- what find answers on a table that is not refused
 pub data FindView (t : Table) (number : ℕ) : Found → Type 0 where
   high : numberMax < number → FindView t number found.Refused
@@ -85,7 +76,7 @@ find-view t number ok = leb-cases number numberMax (λ b. FindView t number (fin
     outside h = subst (FindView t number) (sym (find-no-number t number ok h)) (high h)
 
     by : number ≤ numberMax → (r : Found) → searchOf 0 number (held t) ≡ r → FindView t number r
-    by h found.Refused q = absurd (never-refused number 0 (held t) q)
+    by h found.Refused q = absurd (search-answers 0 number (held t) q)
     by h found.Missing q = missing h (searched-missing number 0 (held t) q)
     by h (found.At i) q =
         let b = found-at t number i (find-is t number ok h ∙ q) .below in

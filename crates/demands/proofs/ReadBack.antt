@@ -1,14 +1,15 @@
 -- What an accepted write wrote is read back from where it was written. Assumes nothing.
 use mathlib.Core.Path.{_≡_, refl, sym, ap, _∙_}
 use mathlib.Core.Bool.{Bool, true, false, _&&_}
-use mathlib.Core.List.{List, [], _∷_, _++_, append-nil}
+use mathlib.Core.List.{List, [], _∷_, _++_}
 use Prim.Native.Nat.{ℕ, _+_, _-_, _≤_, min}
 use native.Mathlib.Omega.{arith}
 use borrow.Author.Tests.{le-ltb}
 use lib.Dec.{ltb, eqb}
 use lib.IntN.{pos, negsuc}
 use lib.ListN.{length, take, drop, length-take, length-append, length-replicate}
-use lib.Seq.{sets, sets-eq, drop-at, drop-length, take-append-seam}
+use lib.Seq.{drop-at, take-append-seam}
+use Rattle.span.proofs.Parts.{sets-over}
 use Rattle.device.specs.Health.{healthOk}
 use Rattle.files.specs.Table.{numberMax, sizeMax}
 use Rattle.files.proofs.Tests.{ltb-cases, leb-cases, bool-cases}
@@ -38,16 +39,11 @@ back bs p src =
     let n : length front ≡ p = length-take p (bs ++ zeros (p - length bs)) ∙ rw (length-append bs (zeros (p - length bs)), length-replicate {A = ℕ} (p - length bs) 0) (omega arith) in
     ap (take (length src)) (drop-at front rest p n) ∙ take-append-seam src (drop (p + length src) bs)
 
-over-all : (buffer src : List ℕ) → length buffer ≡ length src → sets buffer 0 src ≡ src
-over-all buffer src n =
-    sets-eq src buffer 0 (omega arith) ∙ ap (λ (k : ℕ). src ++ drop k buffer) (let z : 0 + length src ≡ length buffer = omega arith in z) ∙ ap (λ (l : List ℕ). src ++ l) (drop-length buffer)
-    ∙ append-nil src
-
 read-from : (bs : List ℕ) (p : ℕ) (src buffer : List ℕ) → length buffer ≡ length src
     → readFrom (plainWrite bs p src) p buffer ≡ record { answer = reading.Bytes (length src); buffer = src }
 read-from bs p src buffer n =
     let m : min (length buffer) (length (plainWrite bs p src) - p) ≡ length src = omega (arith, plain-length bs p src) in
-    rw (m, back bs p src, over-all buffer src n)
+    rw (m, back bs p src, sets-over buffer src n)
 
 -- ---- among plain files
 

@@ -8,6 +8,7 @@ use borrow.Author.Tests.{lt-ltb, le-ltb}
 use lib.Dec.{ltb}
 use lib.IntN.{pos, negsuc}
 use lib.ListN.{length, take, length-replicate}
+use lib.Seq.{take-length}
 use Rattle.layout.specs.Layout.{indexAt, offsetAt}
 use Rattle.hops.specs.Walk.{hops}
 use Rattle.ctz.specs.Lists.{SoundList}
@@ -47,7 +48,7 @@ resized-same : {number m : ℕ} {e : Entry} {es : List Entry} (B : ℕ) (img : L
     → contents.Plainly B img es ≡ plainChange number (resized size) (contents.Plainly B img es)
 resized-same {e = e} {es = es} B img size p q =
     sym (sym (contents.change-files B img img (resized size) p (λ x a. refl) e refl
-    (sym (sym (resized-less size (bytes img B (e .head) (e .size)) (omega (arith, q))) ∙ ap (λ (n : ℕ). take n (bytes img B (e .head) (e .size))) (sym q) ∙ contents.take-all _)))
+    (sym (sym (resized-less size (bytes img B (e .head) (e .size)) (omega (arith, q))) ∙ ap (λ (n : ℕ). take n (bytes img B (e .head) (e .size))) (sym q) ∙ take-length _)))
     ∙ ap (contents.Plainly B img) (contents.set-same p))
 
 module _ {B N l : ℕ} {s : State} (h : Held B N l s) (health : List ℕ) (number size : ℕ) where

@@ -10,12 +10,12 @@ use Rattle.ctz.specs.Lists.{SoundList}
 use Rattle.files.specs.declared.Entry.{Entry}
 use Rattle.files.specs.declared.Table.{Table}
 use Rattle.files.specs.Table.{held, tableOf, filesOk}
+use Rattle.files.proofs.Lists.{of-ok}
 use Rattle.window.specs.Value.{freshOf}
 use Rattle.demands.specs.Calls.{State, Call, Left, after}
 use Rattle.demands.specs.Came.{Among, here, there, Sounds, Came, fresh, called}
 use Rattle.demands.specs.Plain.{PlainFile, plainCode, grows}
 use Rattle.demands.specs.Runs.{filesIn, Step, Run, onto, runs, ran, answered, isShort, plainRuns, told}
-use Rattle.demands.proofs.Entries.{made-ok}
 use Rattle.demands.proofs.Contents.{Plainly, same-files}
 use Rattle.demands.proofs.Kept.{Held}
 use Rattle.demands.proofs.Ends.{Ends, accepted, refused, short}
@@ -56,7 +56,7 @@ pub no-files : (B N start : ℕ) (image : List ℕ) → goodCard B N (length ima
     → Sounds B N (record { window = freshOf start N; table = tableOf []; image = image })
 unfolding filesOk
 no-files B N start image g =
-    record { card = g; table = made-ok [] (omega arith) refl; list = λ e a. none-in (SoundList image B N (e .head) (e .size)) refl a }
+    record { card = g; table = of-ok [] (omega arith) refl; list = λ e a. none-in (SoundList image B N (e .head) (e .size)) refl a }
 
 -- The same from any window that came from store calls.
 pub run-on : {B N l : ℕ} {s : State} → Came B N l s → Sounds B N s → (cs : List Step) → runs B N l cs s ≡ plainRuns (told B N l cs s) (filesIn B s)

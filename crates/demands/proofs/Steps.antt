@@ -6,7 +6,8 @@ use Prim.Native.Nat.{ℕ, _-_, _≤_, _<_}
 use native.Mathlib.Omega.{arith}
 use borrow.Author.Tests.{lt-leb, le-leb}
 use lib.IntN.{pos, negsuc}
-use lib.ListN.{length, take, length-append, length-replicate}
+use lib.ListN.{length, take, length-append, length-map, length-replicate}
+use lib.Seq.{take-length}
 use Rattle.files.specs.declared.Entry.{Entry}
 use Rattle.files.specs.declared.Table.{Table}
 use Rattle.files.specs.declared.Found.{Found}
@@ -15,19 +16,19 @@ use Rattle.files.specs.declared.Changed.{Changed}
 use Rattle.files.specs.Table.{filesMax, held, tableOf, tableOk}
 use Rattle.files.specs.Find.{findOf}
 use Rattle.files.specs.Change.{createOf, removeOf, insertOf, withoutOf}
-use Rattle.files.proofs.Laws.{count-ok, held-ok, held-length}
+use Rattle.files.proofs.Laws.{held-length}
 use Rattle.files.proofs.Lists.{held-of}
 use Rattle.files.proofs.Cases as cases
+use Rattle.files.proofs.Kept.{create-ok, remove-ok}
 use Rattle.files.proofs.Tests.{ltb-cases}
 use Rattle.plain.specs.Bytes.{bytes, span}
 use Rattle.store.specs.Write.{zeros}
 use Rattle.writes.specs.Plain.{plainWrite}
 use Rattle.demands.specs.Calls.{State, create, remove, changedIn}
 use Rattle.demands.specs.Plain.{PlainFile, unless, wrote, resized}
-use Rattle.demands.specs.Runs.{filesIn}
+use Rattle.demands.specs.Runs.{fileIn, filesIn}
 use Rattle.demands.proofs.Changes.{create-keeps, remove-keeps}
 use Rattle.demands.proofs.Named.{Unnamed, FindView, high, missing, at, find-view, number-high, number-none, number-some}
-use Rattle.demands.proofs.Entries.{inserted-ok, removed-ok}
 use Rattle.demands.proofs.Contents as contents
 use Rattle.demands.proofs.Kept.{Held, before, again}
 use Rattle.demands.proofs.Ends.{Ends, accepted, refused}
@@ -51,7 +52,7 @@ pub resized-more : (size : ℕ) (bs : List ℕ) → length bs ≤ size → bs ++
 resized-more size bs h =
     let all = bs ++ zeros (size - length bs) in
     let n : length all ≡ size = length-append bs (zeros (size - length bs)) ∙ rw (length-replicate {A = ℕ} (size - length bs) 0) (omega arith) in
-    sym (ap (λ (k : ℕ). take k all) (sym n) ∙ contents.take-all all)
+    sym (ap (λ (k : ℕ). take k all) (sym n) ∙ take-length all)
 
 pub empty-bytes : (img : List ℕ) (B head : ℕ) → bytes img B head 0 ≡ []
 unfolding bytes span
@@ -68,7 +69,7 @@ module _ {B N l : ℕ} {s : State} (h : Held B N l s) (number : ℕ) where
   ok = h .sounds .table
 
   files-count : length fs ≡ t .count
-  files-count = contents.map-length (λ (e : Entry). record { number = e .number; bytes = bytes (s .image) B (e .head) (e .size) }) (held t) ∙ held-length t ok
+  files-count = length-map (held t) (fileIn B (s .image)) ∙ held-length t ok
 
   -- ---- create
 
@@ -94,7 +95,7 @@ module _ {B N l : ℕ} {s : State} (h : Held B N l s) (number : ℕ) where
             came-in = λ e n x. contents.insert-from number e (held t) n (rw (held-of more) at x);
             reads = λ e x. refl;
           })
-          (again (tableOf more) (s .window) (s .image) (inserted-ok number (held t) u a (omega (arith, held-length t ok)) (held-ok t ok))
+          (again (tableOf more) (s .window) (s .image) (ap (λ (x : Changed). tableOk (x .table)) (sym (cases.create-accepted t number (findOf t number) refl q c)) ∙ create-ok t number ok)
           (rw (held-of more) (create-keeps B N l (s .window) (s .image) (held t) (before h) number))))
 
       full : findOf t number ≡ found.Missing → number ≤ 65535 → Unnamed number (held t) → filesMax ≤ t .count
@@ -140,5 +141,5 @@ module _ {B N l : ℕ} {s : State} (h : Held B N l s) (number : ℕ) where
             reads = λ e x. refl;
           })
           (again (tableOf rest) (s .window) (s .image)
-          (removed-ok number (held t) (omega (arith, held-length t ok, count-ok t ok)) (held-ok t ok))
+          (ap (λ (x : Changed). tableOk (x .table)) (sym (cases.remove-accepted t number (findOf t number) refl i q)) ∙ remove-ok t number ok)
           (rw (held-of rest) (remove-keeps B N l (s .window) (s .image) (held t) (before h) number))))

@@ -15,7 +15,8 @@ use Rattle.files.specs.declared.Entry.{Entry}
 use Rattle.plain.specs.Lists.{Good, SameBlocks, countdown}
 use Rattle.plain.proofs.Countdowns.{among-countdown, countdown-among}
 use Rattle.plain.proofs.Indexes.{used-index, index-used}
-use Rattle.plain.proofs.Finding.{visit-empty, visit-sound}
+use Rattle.ctz.proofs.Visiting.{visit-empty}
+use Rattle.plain.proofs.Finding.{visit-sound}
 use Rattle.plain.proofs.Frames as frames
 use Rattle.window.specs.Scan.{Seen, has, Below, seenAll, listedOf}
 use Rattle.windows.specs.Call.{Lists}
@@ -67,7 +68,7 @@ visit-told B N img head s g l = go (eqb s 0) refl
     go : (t : Bool) → eqb s 0 ≡ t → Told B N img head s (visitOf B N img head s)
     go true e =
         let z = eqb-true s 0 e in
-        rw (visit-empty g l z) (record { ok = refl; all = λ i u. absurd (omega arith); only = λ b u. absurd (has-none b u) })
+        rw (visit-empty B N img head s z) (record { ok = refl; all = λ i u. absurd (omega arith); only = λ b u. absurd (has-none b u) })
     go false e =
         let p : 0 < s = omega (arith, eqb-false s 0 e) in
         rw (visit-sound g l p) (record {

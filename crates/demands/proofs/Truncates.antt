@@ -13,6 +13,7 @@ use Rattle.ctz.specs.Lookup.{lookupOf}
 use Rattle.ctz.specs.declared.Found.the-variants.{At}
 use Rattle.ctz.specs.Visits.{visitOf}
 use Rattle.files.specs.declared.Entry.{Entry}
+use Rattle.files.proofs.Replaced.{altered}
 use Rattle.plain.specs.Lists.{Good}
 use Rattle.plain.specs.Bytes.{bytes}
 use Rattle.plain.proofs.Walks.{at-cut}
@@ -34,7 +35,7 @@ use Rattle.writes.specs.Plain.{plainWrite}
 use Rattle.writes.proofs.Plain.{plain-zeros}
 use Rattle.demands.proofs.Tables.{listedBy, visit-told, of-sounds}
 use Rattle.demands.proofs.Store.{Before}
-use Rattle.demands.proofs.Again.{AtPlace, among-at, sounds-set, visits-set, visits-at, changedTo}
+use Rattle.demands.proofs.Again.{AtPlace, among-at, sounds-set, visits-set, visits-at}
 
 -- What a write of n zeros at the old size leaves is the file with n zeros behind it.
 pub grow-plain : (img : List ℕ) (B head size n : ℕ) → plainWrite (bytes img B head size) size (zeros n) ≡ bytes img B head size ++ zeros n
@@ -45,7 +46,7 @@ grow-plain img B head size n =
 -- A shrunk file: the list (k, q) is the front of the old one, and the table with it is again one of sound lists, the window and the card as they were.
 pub record Shrunk (B N l : ℕ) (files : List Entry) (e : Entry) (m k q : ℕ) (w : Lookahead) (img : List ℕ) : Type 0 where
   pub plain : bytes img B k q ≡ take q (bytes img B (e .head) (e .size))
-  pub again : Before B N l (set files m (changedTo e q k)) w img
+  pub again : Before B N l (set files m (altered e q k)) w img
 
 -- A shrinking truncate that finds the block of the last kept byte leaves such a file.
 pub shrink-keeps : (B N l : ℕ) (files : List Entry) (w : Lookahead) (img : List ℕ) → Before B N l files w img
@@ -63,10 +64,10 @@ shrink-keeps B N l files w img bf e m place q k o h p le lk = record {
 }
   where
     e′ : Entry
-    e′ = changedTo e q k
+    e′ = altered e q k
 
     v : Seen
-    v = seenOf B N img (changedTo e q k)
+    v = seenOf B N img (altered e q k)
 
     good : Good B N img (e .size)
     good = of-sounds (bf .sounds) (among-at place) .0

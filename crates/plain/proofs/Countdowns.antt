@@ -1,6 +1,6 @@
 -- What a countdown holds: f i, .., f 0, and nothing else. Assumes nothing.
 use mathlib.Core.Path.{_≡_, refl, sym, ap, _∙_}
-use mathlib.Core.Bool.{Bool, true, false, _||_}
+use mathlib.Core.Bool.{Bool, true, false, _||_, or-true}
 use mathlib.Core.List.{List, [], _∷_}
 use Prim.Native.Nat.{ℕ, zero, suc, _≤_}
 use native.Mathlib.Omega.{arith}
@@ -17,10 +17,6 @@ countdown-same f g (suc i) e =
     ap (λ (x : ℕ). x ∷ countdown f i) (e (suc i) (omega arith))
     ∙ ap (λ (l : List ℕ). g (suc i) ∷ l) (countdown-same f g i (λ j h. e j (omega arith)))
 
-or-right : (a : Bool) → (a || true) ≡ true
-or-right true = refl
-or-right false = refl
-
 -- each value is among them
 pub among-countdown : (f : ℕ → ℕ) (i j : ℕ) → j ≤ i → among (f j) (countdown f i) ≡ true
 unfolding among countdown
@@ -30,7 +26,7 @@ among-countdown f (suc i) j h = go (eqb j (suc i)) refl (among-countdown f i j)
     go : (t : Bool) → eqb j (suc i) ≡ t → (j ≤ i → among (f j) (countdown f i) ≡ true)
         → (eqb (f j) (f (suc i)) || among (f j) (countdown f i)) ≡ true
     go true e ih = rw (eq-eqb (f j) (f (suc i)) (ap f (eqb-true j (suc i) e)))
-    go false e ih = let ne = eqb-false j (suc i) e in rw (ih (omega arith)) (or-right (eqb (f j) (f (suc i))))
+    go false e ih = let ne = eqb-false j (suc i) e in rw (ih (omega arith)) (or-true (eqb (f j) (f (suc i))))
 
 -- and what is among them is one of these values
 pub countdown-among : (f : ℕ → ℕ) (i k : ℕ) → among k (countdown f i) ≡ true → (j : ℕ) × (j ≤ i) × (f j ≡ k)

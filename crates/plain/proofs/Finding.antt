@@ -1,45 +1,24 @@
 -- Lookup and visit of a sound list on an image, and demand 3. Assumes nothing.
 use mathlib.Core.Path.{_≡_, refl, sym, ap, _∙_}
 use mathlib.Core.Bool.{true}
-use mathlib.Core.List.{List, []}
-use Prim.Native.Nat.{ℕ, _-_, _≤_, _<_}
+use mathlib.Core.List.{List}
+use Prim.Native.Nat.{ℕ, _-_, _<_}
 use native.Mathlib.Omega.{arith}
-use borrow.Author.Tests.{lt-ltb, le-ltb, ne-eqb, eq-eqb}
 use Rattle.hops.specs.Walk.{hops}
 use Rattle.hops.proofs.Bound.{bound-none, bound-one, bound}
 use Rattle.layout.specs.Layout.{indexAt, offsetAt}
 use Rattle.card.specs.Blocks.{pointer}
 use Rattle.ctz.specs.Lists.{at, SoundList}
 use Rattle.ctz.specs.Lookup.{walkTo, lookupOf}
-use Rattle.ctz.specs.declared.Found.the-variants.{At, Refused}
+use Rattle.ctz.specs.declared.Found.the-variants.{At}
 use Rattle.ctz.specs.Visits.{visitOf}
+use Rattle.ctz.proofs.Lookups.{lookup-walks}
+use Rattle.ctz.proofs.Visiting.{visit-begins}
 use Rattle.plain.specs.Lists.{Good, countdown}
 use Rattle.plain.specs.Demand.{Fewest}
 use Rattle.plain.proofs.Lookups.{walk-finds, least-stored, some-stored}
 use Rattle.plain.proofs.Visits.{visited}
 use Rattle.plain.proofs.Indexes.{index-le, top-small}
-
--- ---- lookup by its cases
-
-module _ (B N : ℕ) (image : List ℕ) (head size p : ℕ) (g : Good B N image size) where
-  -- an empty list gives the null block, whatever the position
-  pub lookup-empty : size ≡ 0 → lookupOf B N image head size p ≡ At 4294967295 0 0
-  unfolding lookupOf
-  lookup-empty z = rw (lookupOf, g .good, le-ltb 2147483647 size (g .fits), eq-eqb size 0 z)
-
-  -- a position at or past the size is refused
-  pub lookup-past : (size ≡ 0 → ⊥) → size ≤ p → lookupOf B N image head size p ≡ Refused
-  unfolding lookupOf
-  lookup-past z h = rw (lookupOf, g .good, le-ltb 2147483647 size (g .fits), ne-eqb size 0 z, le-ltb p size h)
-
-  -- below the size a lookup is the walk
-  pub lookup-walk : p < size → lookupOf B N image head size p ≡ walkTo image B N head size p
-  unfolding lookupOf
-  lookup-walk h =
-      let z : size ≡ 0 → ⊥ = λ e. omega arith in
-      rw (lookupOf, g .good, le-ltb 2147483647 size (g .fits), ne-eqb size 0 z, lt-ltb p size h)
-
--- ---- of a sound list
 
 module _ {B N : ℕ} {image : List ℕ} {head size : ℕ} (g : Good B N image size) (s : SoundList image B N head size) where
   abbrev top : ℕ
@@ -55,7 +34,7 @@ module _ {B N : ℕ} {image : List ℕ} {head size : ℕ} (g : Good B N image si
 
   -- and that is what a lookup answers
   pub lookup-sound : (p : ℕ) → p < size → lookupOf B N image head size p ≡ At (blk (indexAt B p)) (offsetAt B p) (hops top (indexAt B p))
-  lookup-sound p h = lookup-walk B N image head size p g h ∙ walk-sound p h
+  lookup-sound p h = sym (lookup-walks B N image head size p (g .good) (g .fits) h) ∙ walk-sound p h
 
   -- whatever block a lookup answers is that of the position
   pub lookup-block : (p k o h : ℕ) → p < size → lookupOf B N image head size p ≡ At k o h → blk (indexAt B p) ≡ k
@@ -81,14 +60,6 @@ module _ {B N : ℕ} {image : List ℕ} {head size : ℕ} (g : Good B N image si
         twice = bound top (indexAt B p) w;
       }
 
-  -- the visit of an empty list hands nothing over
-  pub visit-empty : size ≡ 0 → visitOf B N image head size ≡ record { handed = []; clean = true }
-  unfolding visitOf
-  visit-empty z = rw (visitOf, eq-eqb size 0 z)
-
-  -- the visit of any other hands over exactly its blocks, last index first
+  -- the visit of a list that is not empty hands over exactly its blocks, last index first
   pub visit-sound : 0 < size → visitOf B N image head size ≡ record { handed = countdown blk top; clean = true }
-  unfolding visitOf
-  visit-sound h =
-      let z : size ≡ 0 → ⊥ = λ e. omega arith in
-      rw (visitOf, ne-eqb size 0 z) (visited (s .list h))
+  visit-sound h = visit-begins B N image head size h ∙ visited (s .list h)

@@ -19,6 +19,7 @@ use Rattle.ctz.specs.Lists.{at, SoundList}
 use Rattle.ctz.specs.Lookup.{lookupOf}
 use Rattle.ctz.specs.declared.Found.the-variants.{At}
 use Rattle.ctz.specs.Visits.{visitOf}
+use Rattle.ctz.proofs.Lookups.{lookup-empty, lookup-past}
 use Rattle.audit.specs.Check.{checkOf}
 use Rattle.plain.specs.Bytes.{byteAt, bytes}
 use Rattle.plain.specs.Reading.{readIn, stretchIn, partBytes, Bytes}
@@ -26,7 +27,7 @@ use Rattle.plain.specs.Lists.{Good, SameBlocks}
 use Rattle.plain.proofs.Walks.{Agrees, at-frame, sound-frame}
 use Rattle.plain.proofs.Countdowns.{countdown-same}
 use Rattle.plain.proofs.Spans.{span-same}
-use Rattle.plain.proofs.Finding.{lookup-empty, lookup-past, lookup-sound, visit-sound}
+use Rattle.plain.proofs.Finding.{lookup-sound, visit-sound}
 use Rattle.plain.proofs.Files.{block-byte}
 use Rattle.plain.proofs.Reading.{read-sound, stretch-sound, stretch-past}
 use Rattle.plain.proofs.Faults.{check-sound}
@@ -80,11 +81,12 @@ module _ {image image′ : List ℕ} {B head size : ℕ} (a : SameBlocks image i
       where
         go : (e : Bool) → eqb size 0 ≡ e → (t : Bool) → ltb p size ≡ t → lookupOf B N image′ head size p ≡ lookupOf B N image head size p
         go true e t q =
-            lookup-empty B N image′ head size p (frame-good g) (eqb-true size 0 e)
-            ∙ sym (lookup-empty B N image head size p g (eqb-true size 0 e))
+            let z = eqb-true size 0 e in
+            sym (lookup-empty B N image′ head size p (frame-good g .good) (g .fits) z) ∙ lookup-empty B N image head size p (g .good) (g .fits) z
         go false e false q =
-            lookup-past B N image′ head size p (frame-good g) (eqb-false size 0 e) (ltb-false p size q)
-            ∙ sym (lookup-past B N image head size p g (eqb-false size 0 e) (ltb-false p size q))
+            let z = eqb-false size 0 e in
+            let h = ltb-false p size q in
+            sym (lookup-past B N image′ head size p (frame-good g .good) (g .fits) z h) ∙ lookup-past B N image head size p (g .good) (g .fits) z h
         go false e true q =
             let h = ltb-true p size q in
             lookup-sound (frame-good g) (frame-sound s) p h

@@ -1,15 +1,12 @@
 -- Bytes and pointers of blocks after a store into one of them. Assumes nothing.
-use mathlib.Core.Path.{_≡_, refl, sym, ap, _∙_}
-use mathlib.Core.Logic.{_≢_, _⊎_, inl, inr}
-use mathlib.Core.Bool.{Bool, true, false}
+use mathlib.Core.Path.{_≡_, sym, ap, _∙_}
+use mathlib.Core.Logic.{_≢_, _⊎_, inl, inr, ⊎-elim}
 use mathlib.Core.List.{List}
-use Prim.Native.Nat.{ℕ, suc, _+_, _*_, _≤_, _<_}
-use native.Mathlib.Nat.{add-assoc, mul-le-mul-right, suc-mul, mul-comm}
+use Prim.Native.Nat.{ℕ, _+_, _*_, _≤_, _<_}
+use native.Mathlib.Nat.{add-assoc, mul-comm}
 use native.Mathlib.Omega.{arith}
-use borrow.Author.Tests.{ltb-true, ltb-false}
-use lib.Dec.{ltb}
 use lib.ListN.{length, getD, drop, length-take, length-drop}
-use lib.Seq.{length-sets, getD-take, getD-drop}
+use lib.Seq.{getD-take, getD-drop}
 use Rattle.span.specs.Words.{wordAt, bytes32}
 use Rattle.span.proofs.Runs.{getD-sets-in, getD-sets-out}
 use Rattle.span.proofs.Words.{word-same, word-part, word-of-bytes32}
@@ -17,29 +14,20 @@ use Rattle.card.specs.Blocks.{pointer}
 use Rattle.card.specs.Card.{Card}
 use Rattle.card.proofs.Cards.{block-inside}
 use Rattle.device.specs.Device.{stored}
+use Rattle.device.proofs.Bounds.{blocks-apart}
+use Rattle.device.proofs.Frame.{stored-length}
 use Rattle.grow.specs.Grow.{part}
 use Rattle.writes.specs.Cells.{cell}
 
 -- a byte of one block is in no other
 other : (B k k′ o : ℕ) → o < B → k′ ≢ k → (k * B + o < k′ * B) ⊎ (k′ * B + B ≤ k * B + o)
-other B k k′ o h ne = go (ltb k k′) refl
-  where
-    go : (x : Bool) → ltb k k′ ≡ x → (k * B + o < k′ * B) ⊎ (k′ * B + B ≤ k * B + o)
-    go true e = let l : suc k * B ≤ k′ * B = mul-le-mul-right B (ltb-true k k′ e) in inl (omega (arith, suc-mul k B))
-    go false e =
-        let lt : k′ < k = omega (arith, ltb-false k k′ e, ne) in
-        let l : suc k′ * B ≤ k * B = mul-le-mul-right B lt in
-        inr (omega (arith, suc-mul k′ B))
+other B k k′ o h ne = ⊎-elim (λ a. inr (omega arith)) (λ a. inl (omega arith)) (blocks-apart B k′ k ne)
 
 -- ---- a block with bytes vs stored from offset o on
 module _ (B k o : ℕ) (vs img : List ℕ) where
-  stored-length : length (stored B k o vs img) ≡ length img
-  unfolding stored
-  stored-length = length-sets img (k * B + o) vs
-
   -- the image is a card as before
   pub stored-card : (N : ℕ) → Card B N (length img) → Card B N (length (stored B k o vs img))
-  stored-card N c = rw stored-length c
+  stored-card N c = rw (stored-length B k o vs img) c
 
   -- other blocks stand
   pub stored-other : o + length vs ≤ B → (k′ o′ : ℕ) → k ≢ k′ → o′ < B → cell B (stored B k o vs img) k′ o′ ≡ cell B img k′ o′

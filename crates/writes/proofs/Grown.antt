@@ -41,7 +41,7 @@ module _ (B N : ℕ) (sized : Sized B) (img img′ : List ℕ) (f : ℕ → ℕ)
   inside = let a = in-block B sized s (h .short) in rw (← ei) (a .from, a .until)
 
   -- an index in use up to s′ is i or was in use
-  earlier : (s′ j : ℕ) → s′ ≤ start B (suc i) → start B j < s′ → j ≢ i → (j < i) × (start B j < s)
+  pub earlier : (s′ j : ℕ) → s′ ≤ start B (suc i) → start B j < s′ → j ≢ i → (j < i) × (start B j < s)
   earlier s′ j l u ne = go (either i j)
     where
       go : (i < j) ⊎ (j ≤ i) → (j < i) × (start B j < s)

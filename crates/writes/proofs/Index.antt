@@ -1,10 +1,8 @@
 -- Indexes, their starts and their pointers, for sizes below 2 ^ 32: which indexes start by a position, and what their pointers name. Assumes nothing.
 use mathlib.Core.Path.{_≡_, subst}
-use mathlib.Core.Logic.{_⊎_, inl, inr, ⊎-elim}
 use Prim.Native.Nat.{ℕ, zero, suc, _+_, _-_, _*_, _^_, _≤_, _<_, _∣_}
-use native.Mathlib.Nat.{dvd-sub, dvd-refl, le-of-dvd, pow-suc, lt-of-not-le}
-use native.Mathlib.Decide.{decLe}
-use native.Mathlib.Omega.{arith}
+use native.Mathlib.Nat.{dvd-sub, dvd-refl, le-of-dvd, pow-suc}
+use native.Mathlib.Omega.{arith, by-contra}
 use lib.Pow.{pow-pos}
 use lib.Count.{trailingZeros, trailing-le}
 use Rattle.layout.specs.Layout.{pointers, start, InBlock, indexAt, offsetAt}
@@ -14,9 +12,6 @@ use Rattle.layout.proofs.Places.{start-suc, offset-of}
 use Rattle.layout.proofs.Served.{served, index-in, index-found, pointers-fit}
 use Rattle.hops.proofs.Digits.{dvd-of-ctz, ctz-of-dvd}
 use Rattle.plain.proofs.Indexes.{index-met}
-
-either : (m n : ℕ) → (m ≤ n) ⊎ (n < m)
-either m n = elim (decLe m n) [ yes h ↦ inl h | no h ↦ inr (lt-of-not-le h) ]
 
 -- ---- pointers
 
@@ -67,8 +62,7 @@ module _ (B : ℕ) (sized : Sized B) where
   -- an index that starts by a position is at most the position's
   pub index-le : (p i : ℕ) → p < 2 ^ 32 → start B i ≤ p → i ≤ indexAt B p
   index-le p i h a =
-      ⊎-elim (λ (l : i ≤ indexAt B p). l)
-      (λ (g : indexAt B p < i). absurd (omega (arith, start-mono B (suc (indexAt B p)) i g, in-block p h .until))) (either i (indexAt B p))
+      by-contra i (indexAt B p) (λ g. omega (arith, start-mono B (suc (indexAt B p)) i g, in-block p h .until))
 
   -- so its pointers leave room for data
   pub roomy : (p i : ℕ) → p < 2 ^ 32 → start B i ≤ p → 4 * pointers i < B

@@ -10,7 +10,6 @@ use lib.Dec.{eqb}
 use lib.ListN.{length, List·getD-eq-default}
 use Rattle.layout.specs.Layout.{start, InBlock, indexAt, offsetAt}
 use Rattle.layout.specs.Place.{Sized}
-use Rattle.layout.proofs.Laws.{start-mono}
 use Rattle.layout.proofs.Places.{offset-past, index-mono}
 use Rattle.card.specs.Card.{Card}
 use Rattle.grow.specs.Supply.{Took}
@@ -20,9 +19,9 @@ use Rattle.writes.specs.Cells.{cell, byteAt, bytes}
 use Rattle.writes.specs.Lists.{Holds, put}
 use Rattle.writes.specs.Allocator.{Known, Stays, Allocator}
 use Rattle.writes.proofs.Cells.{pointer-same}
-use Rattle.writes.proofs.Index.{start-lt, offset-is, roomy}
+use Rattle.writes.proofs.Index.{offset-is, roomy}
 use Rattle.writes.proofs.Holds.{either, byte-at, moves, byte-moves, bytes-length, bytes-at}
-use Rattle.writes.proofs.Grown.{Made, grown, grown-old, grown-new, put-same, put-other}
+use Rattle.writes.proofs.Grown.{Made, earlier, grown, grown-old, grown-new, put-same, put-other}
 use Rattle.writes.proofs.Grows.{Growing, Got}
 use Rattle.writes.proofs.Fills.{Filled, front-others, front-card}
 use Rattle.writes.proofs.Plain.{plain-low, plain-mid, plain-high}
@@ -163,13 +162,7 @@ module _ {W : Type 0} (look : List ℕ → ℕ → Look) (B N : ℕ) (health : L
     }
       where
         before : (i′ : ℕ) → start B i′ < s + wd → i′ ≢ i → (i′ < i) × (start B i′ < s)
-        before i′ u ne = go (either i i′)
-          where
-            go : (i < i′) ⊎ (i′ ≤ i) → (i′ < i) × (start B i′ < s)
-            go (inl l) = absurd (omega (arith, start-mono B (suc i) i′ l, ends))
-            go (inr l) =
-                let lt : i′ < i = omega (arith, ne) in
-                (lt, omega (arith, is .from, start-lt B sized s i′ i s32 (is .from) lt))
+        before i′ u ne = earlier B N sized (w .mid) img′ f s k i hm refl (w .low) free made (s + wd) i′ ends u ne
 
         clear-at : (i′ : ℕ) → start B i′ < s + wd → (t : Bool) → eqb i′ i ≡ t → Known L (g .out′) (put f i k i′)
         clear-at i′ u true e = subst (λ (z : ℕ). Known L (g .out′) z) (sym (ap (put f i k) (eqb-true i′ i e) ∙ put-same f i k)) (inr (w .fresh))
