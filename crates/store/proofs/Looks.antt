@@ -117,15 +117,16 @@ module _ (look : List ℕ → ℕ → Look) (img : List ℕ) where
       wanted-first a b = rw (le-ltb 0 (indexAt B q) (index-none h a), lt-ltb (start B (indexAt B q)) q (omega arith))
 
       module _ (first : ℕ) (ef : first ≡ start B (indexAt B q)) where
+        -- the block before, by its first position or its last
+        before : 0 < start B (indexAt B q) → look img (start B (indexAt B q - 1)) ≡ look img (first - 1)
+        before a = same _ _ (start-before h a ∙ ap (λ (x : ℕ). indexAt B (x - 1)) (sym ef))
+
         -- a kept block is lost
         pub head-lost : 0 < first → first < q → look img (first - 1) ≡ Look.Lost → looked-as.Lost ≡ lookedOf (keptOf look B img q)
         unfolding keptOf
         head-lost a b e =
             rw (keptOf, wanted-both (omega arith) (omega arith))
             (rw (looked-lost (start B (indexAt B q - 1)) (start B (indexAt B q) ∷ []) (before (omega arith) ∙ e)) refl)
-          where
-            before : 0 < start B (indexAt B q) → look img (start B (indexAt B q - 1)) ≡ look img (first - 1)
-            before a = same _ _ (start-before h a ∙ ap (λ (x : ℕ). indexAt B (x - 1)) (sym ef))
 
         -- inside a block behind the first
         pub head-inside : (k : ℕ) → 0 < first → first < q → look img (first - 1) ≡ Look.Found k
@@ -134,9 +135,6 @@ module _ (look : List ℕ → ℕ → Look) (img : List ℕ) where
             head-last (q - 1) (start B (indexAt B q)) (omega arith)
             (ap (looked look img) (wanted-both (omega arith) (omega arith)) ∙ looked-more _ _ k (before (omega arith) ∙ e))
             (same _ _ (index-start h ∙ sym (index-within h (q - 1) (omega arith) (omega arith))))
-          where
-            before : 0 < start B (indexAt B q) → look img (start B (indexAt B q - 1)) ≡ look img (first - 1)
-            before a = same _ _ (start-before h a ∙ ap (λ (x : ℕ). indexAt B (x - 1)) (sym ef))
 
         -- at a border
         pub head-border : 0 < first → q ≤ first → lookedOf (look img (q - 1)) ≡ lookedOf (keptOf look B img q)
