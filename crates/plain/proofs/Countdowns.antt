@@ -9,14 +9,6 @@ use lib.Dec.{eqb}
 use Rattle.audit.specs.Check.{among}
 use Rattle.plain.specs.Lists.{countdown}
 
--- equal values make equal countdowns
-pub countdown-same : (f g : ℕ → ℕ) (i : ℕ) → ((j : ℕ) → j ≤ i → f j ≡ g j) → countdown f i ≡ countdown g i
-unfolding countdown
-countdown-same f g zero e = ap (λ (x : ℕ). x ∷ []) (e 0 (omega arith))
-countdown-same f g (suc i) e =
-    ap (λ (x : ℕ). x ∷ countdown f i) (e (suc i) (omega arith))
-    ∙ ap (λ (l : List ℕ). g (suc i) ∷ l) (countdown-same f g i (λ j h. e j (omega arith)))
-
 -- each value is among them
 pub among-countdown : (f : ℕ → ℕ) (i j : ℕ) → j ≤ i → among (f j) (countdown f i) ≡ true
 unfolding among countdown
@@ -42,3 +34,11 @@ countdown-among f (suc i) k h = go (eqb k (f (suc i))) refl h (countdown-among f
         → (among k (countdown f i) ≡ true → (j : ℕ) × (j ≤ i) × (f j ≡ k)) → (j : ℕ) × (j ≤ suc i) × (f j ≡ k)
     go true e h ih = (suc i, omega arith, sym (eqb-true k (f (suc i)) e))
     go false e h ih = let r = ih h in (r .0, omega arith, r .2)
+
+-- equal values make equal countdowns
+pub countdown-same : (f g : ℕ → ℕ) (i : ℕ) → ((j : ℕ) → j ≤ i → f j ≡ g j) → countdown f i ≡ countdown g i
+unfolding countdown
+countdown-same f g zero e = ap (λ (x : ℕ). x ∷ []) (e 0 (omega arith))
+countdown-same f g (suc i) e =
+    ap (λ (x : ℕ). x ∷ countdown f i) (e (suc i) (omega arith))
+    ∙ ap (λ (l : List ℕ). g (suc i) ∷ l) (countdown-same f g i (λ j h. e j (omega arith)))
