@@ -12,10 +12,12 @@ use Rattle.layout.specs.Place.{Served}
 use Rattle.layout.proofs.Places.{index-mono}
 use Rattle.layout.proofs.Served.{served, index-in, index-found}
 use Rattle.hops.specs.Walk.{pick}
+use Rattle.card.specs.Blocks.{pointer}
 use Rattle.ctz.specs.declared.Found.{Found}
 use Rattle.ctz.specs.declared.Found.the-variants as found
 use Rattle.ctz.specs.Lookup.{walk, walkTo}
 use Rattle.ctz.proofs.Lookups.{found-tells}
+use Rattle.ctz.proofs.Walked.{walk-damaged, walk-at}
 use Rattle.files.specs.declared.Entry.{Entry}
 use Rattle.store.specs.declared.old.Looked.the-variants as looked-as
 use Rattle.store.specs.Write.{Look, starts, looked, firstHead}
@@ -44,6 +46,18 @@ walk-same (suc f) ptr N off off′ tgt cur k hops =
 pub look-same : (B N : ℕ) (e : Entry) (img : List ℕ) (p r : ℕ) → indexAt B p ≡ indexAt B r → lookIn B N e img p ≡ lookIn B N e img r
 unfolding walkTo
 look-same B N e img p r i = rw (walkTo, i) (walk-same _ _ N _ _ _ _ _ _)
+
+-- the block of the last byte is the head, if that is a block
+pub look-head : (B N : ℕ) (e : Entry) (img : List ℕ) (p : ℕ) → p + 1 ≡ e .size → e .head < N → lookIn B N e img p ≡ Look.Found (e .head)
+unfolding walkTo
+look-head B N e img p s h =
+    let q : e .size - 1 ≡ p = omega arith in
+    rw (walkTo, q) (ap lookOf (walk-at (indexAt B p) (pointer img B) N (offsetAt B p) (indexAt B p) (indexAt B p) (e .head) 0 h (omega arith)))
+
+pub look-headless : (B N : ℕ) (e : Entry) (img : List ℕ) (p : ℕ) → N ≤ e .head → lookIn B N e img p ≡ Look.Lost
+unfolding walkTo
+look-headless B N e img p h =
+    ap lookOf (walk-damaged (indexAt B (e .size - 1)) (pointer img B) N (offsetAt B p) (indexAt B p) (indexAt B (e .size - 1)) (e .head) 0 h)
 
 -- a block that is found is below N
 pub look-below : {B N : ℕ} {e : Entry} {len : ℕ} (img : List ℕ) (p k : ℕ) → Looking B N e len → p < e .size → lookIn B N e img p ≡ Look.Found k → k < N

@@ -26,11 +26,17 @@ fn block_start(b: u32, p: u32) -> u32
     p - (layout::offset_at(b, p, index) - 4 * layout::pointer_count(index))
 }
 
-// The block of a position of a file.
+// The block of a position of a file: the head, at its last byte.
 pub fn look(b: u32, n: u32, image: &[u8], e: Entry, p: u32) -> Looked
     requires { ⌜ Looking b n e (length (now image)) × (p < e .size) ⌝ }
     ensures { λ r. ⌜ r ≡ lookedOf (lookIn b n e (now (image .entry)) p) ⌝ }
 {
+    if p + 1 == e.size {
+        if e.head < n {
+            return Looked::Block(e.head);
+        }
+        return Looked::Lost;
+    }
     let found = ctz::find_in(b, n, image, e.head, e.size, p);
     match found {
         ctz::Found::At {

@@ -1,11 +1,22 @@
--- `store::old::look` meets its contract: the lookup's answer, case by case. Assumes nothing.
+-- `store::old::look` meets its contract: the head at the last byte, else the lookup's answer, case by case. Assumes nothing.
 use mathlib.Core.Path.{sym, ap, _∙_}
 use Rattle.ctz.specs.declared.Found.{Found}
 use Rattle.store.specs.Store.{lookOf}
+use Rattle.store.specs.Write.{Look}
 use Rattle.store.specs.Lookups.{lookedOf}
+use Rattle.store.proofs.Looks.{look-head, look-headless}
 use borrow.Author.Needs.{needs}
 use Rattle.store.proofs.old.look.Statement.{statement}
 use Rattle.store.proofs.old.look.Tie as tie
+
+add-if1 : tie.Need-add-if1
+add-if1 c = search needs
+
+returns : tie.Need-returns
+returns c = sym (ap (λ (x : Look). lookedOf x) (look-head _ _ (c .before .before .before .before .before .args .e) _ _ (c .before .before .if1 .taken) (c .if2 .taken)))
+
+returns-2 : tie.Need-returns-2
+returns-2 c = sym (ap (λ (x : Look). lookedOf x) (look-headless _ _ (c .before .before .before .before .before .args .e) _ _ (c .if2 .left)))
 
 find-in-requires : tie.Need-find-in-requires
 find-in-requires c κs = search needs
@@ -19,19 +30,29 @@ enum-told c = search needs
 enum-told-2 : tie.Need-enum-told-2
 enum-told-2 c = search needs
 
-returns : tie.Need-returns
-returns c =
-    ap (λ (f : Found). lookedOf (lookOf f)) (sym (c .before .found .given .1) ∙ c .before .before .before .find-in .ensures)
-
-returns-2 : tie.Need-returns-2
-returns-2 c =
-    ap (λ (f : Found). lookedOf (lookOf f)) (sym (c .enum-told .given .1) ∙ c .before .before .find-in .ensures)
-
 returns-3 : tie.Need-returns-3
 returns-3 c =
+    ap (λ (f : Found). lookedOf (lookOf f)) (sym (c .before .found .given .1) ∙ c .before .before .before .find-in .ensures)
+
+returns-4 : tie.Need-returns-4
+returns-4 c =
+    ap (λ (f : Found). lookedOf (lookOf f)) (sym (c .enum-told .given .1) ∙ c .before .before .find-in .ensures)
+
+returns-5 : tie.Need-returns-5
+returns-5 c =
     ap (λ (f : Found). lookedOf (lookOf f)) (sym (c .enum-told2 .given .1) ∙ c .before .before .find-in .ensures)
 
 pub look-spec : {M : Type 1} → statement M
 look-spec =
     tie.close
-    (tie.spec find-in-requires enum-known-found enum-told enum-told-2 returns returns-2 returns-3)
+    (tie.spec
+    add-if1
+    returns
+    returns-2
+    find-in-requires
+    enum-known-found
+    enum-told
+    enum-told-2
+    returns-3
+    returns-4
+    returns-5)
