@@ -18,13 +18,13 @@ use Rattle.ctz.proofs.Walked.{walk-damaged, walk-at, walk-hop, Trail, l
 -- ---- the offset
 
 -- the same answer with another offset
-abbrev placed : ℕ → Found → Found
+abbrev pub placed : ℕ → Found → Found
 placed off (At k o h) = At k off h
 placed off Damaged = Damaged
 placed off Refused = Refused
 
 module _ (ptr : ℕ → ℕ → ℕ) (N : ℕ) where
-  walk-placed : (o off f tgt cur k n : ℕ) → walk f ptr N off tgt cur k n ≡ placed off (walk f ptr N o tgt cur k n)
+  pub walk-placed : (o off f tgt cur k n : ℕ) → walk f ptr N off tgt cur k n ≡ placed off (walk f ptr N o tgt cur k n)
   unfolding walk
   walk-placed o off zero tgt cur k n = refl
   walk-placed o off (suc f) tgt cur k n =
@@ -41,10 +41,6 @@ module _ (ptr : ℕ → ℕ → ℕ) (N : ℕ) where
     -- a walk with another offset ends at the same block after as many hops
     pub walk-offset : {k′ o′ h : ℕ} → walk f ptr N o tgt cur k n ≡ At k′ o′ h → walk f ptr N off tgt cur k n ≡ At k′ off h
     walk-offset e = walk-placed o off f tgt cur k n ∙ ap (placed off) e
-
-    -- or is lost too
-    pub walk-offset-lost : walk f ptr N o tgt cur k n ≡ Damaged → walk f ptr N off tgt cur k n ≡ Damaged
-    walk-offset-lost e = walk-placed o off f tgt cur k n ∙ ap (placed off) e
 
 -- ---- from one index to another
 
@@ -76,13 +72,6 @@ module _ (ptr : ℕ → ℕ → ℕ) (N off i : ℕ) (p : 0 < i) (k′ o′ h : 
       ∙ rw (pick-through cur i w p c) (through rest e f (omega arith) (omega arith) (omega arith))
 
 module _ (ptr : ℕ → ℕ → ℕ) (N head top : ℕ) where
-  -- the last index of the list is that of its head
-  pub seek-top : head < N → seek ptr N head top top ≡ At head 0 0
-  seek-top h = walk-at top ptr N 0 top top head 0 h (omega arith)
-
-  pub seek-top-lost : N ≤ head → seek ptr N head top top ≡ Damaged
-  seek-top-lost h = walk-damaged top ptr N 0 top top head 0 h
-
   module _ (i k h : ℕ) (w : top < 2 ^ 32) (p : 0 < i) (l : i + 2 ^ ctz i ≤ top) (e : seek ptr N head top (i + 2 ^ ctz i) ≡ At k 0 h) where
     -- THEOREM. The block of index i is what the block found for i + 2 ^ ctz i stores as its pointer ctz i,
     pub through-at : ptr k (ctz i) < N → seek ptr N head top i ≡ At (ptr k (ctz i)) 0 (suc h)

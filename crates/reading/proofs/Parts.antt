@@ -42,6 +42,3 @@ lent-part image a B off m h =
     let e : a + B - a ≡ B = omega arith in
     ap (λ (x : ℕ). take m (drop off (take x (drop a image)))) e ∙ ap (take m) (drop-take off B (drop a image))
     ∙ take-take m (B - off) (drop off (drop a image)) (omega arith) ∙ ap (take m) (drop-drop off a image)
-
-pub lent-length : (image : List ℕ) (a B : ℕ) → a + B ≤ length image → length (take (a + B - a) (drop a image)) ≡ B
-lent-length image a B h = length-part image a (a + B - a) (omega arith) ∙ omega arith

@@ -2,7 +2,7 @@
 use mathlib.Core.Path.{_≡_, refl, sym, ap, _∙_}
 use mathlib.Core.Bool.{Bool, true, false, _&&_}
 use mathlib.Core.List.{List, [], _∷_, _++_}
-use Prim.Native.Nat.{ℕ, zero, suc, _+_, _-_, _^_, _≤_, _<_}
+use Prim.Native.Nat.{ℕ, suc, _+_, _-_, _^_, _≤_, _<_}
 use native.Mathlib.Numerals.{add-one}
 use native.Mathlib.Omega.{arith}
 use borrow.Author.Tests.{lt-ltb, le-ltb, ltb-true, ltb-false}
@@ -11,13 +11,13 @@ use Rattle.layout.specs.Layout.{indexAt, offsetAt, start}
 use Rattle.layout.specs.Place.{Served}
 use Rattle.layout.proofs.Places.{index-mono}
 use Rattle.layout.proofs.Served.{served, index-in, index-found}
-use Rattle.hops.specs.Walk.{pick}
 use Rattle.card.specs.Blocks.{pointer}
 use Rattle.ctz.specs.declared.Found.{Found}
 use Rattle.ctz.specs.declared.Found.the-variants as found
 use Rattle.ctz.specs.Lookup.{walk, walkTo}
 use Rattle.ctz.proofs.Lookups.{found-tells}
 use Rattle.ctz.proofs.Walked.{walk-damaged, walk-at}
+use Rattle.ctz.proofs.Through.{placed, walk-placed}
 use Rattle.files.specs.declared.Entry.{Entry}
 use Rattle.store.specs.declared.old.Looked.the-variants as looked-as
 use Rattle.store.specs.Write.{Look, starts, looked, firstHead}
@@ -25,27 +25,19 @@ use Rattle.store.specs.Store.{lookOf, lookIn}
 use Rattle.store.specs.Lookups.{lookedOf, keptWanted, tailWanted, keptOf, Looking}
 use Rattle.store.proofs.Index.{index-within, index-start, start-before, index-some, index-none, start-behind, index-behind}
 
-walk-same : (f : ℕ) (ptr : ℕ → ℕ → ℕ) (N off off′ tgt cur k hops : ℕ)
-    → lookOf (walk f ptr N off tgt cur k hops) ≡ lookOf (walk f ptr N off′ tgt cur k hops)
-unfolding walk
-walk-same zero ptr N off off′ tgt cur k hops = refl
-walk-same (suc f) ptr N off off′ tgt cur k hops =
-    go (ltb k N) (ltb tgt cur) (walk-same f ptr N off off′ tgt _ _ _)
-  where
-    rest : ℕ → Found
-    rest o = walk f ptr N o tgt (cur - 2 ^ pick cur tgt) (ptr k (pick cur tgt)) (suc hops)
-
-    go : (a b : Bool) → lookOf (rest off) ≡ lookOf (rest off′)
-        → lookOf (elim a [ false ↦ found.Damaged | true ↦ elim b [ false ↦ found.At k off hops | true ↦ rest off ] ])
-        ≡ lookOf (elim a [ false ↦ found.Damaged | true ↦ elim b [ false ↦ found.At k off′ hops | true ↦ rest off′ ] ])
-    go false b ih = refl
-    go true false ih = refl
-    go true true ih = ih
+-- the offset that a lookup answers is not looked at
+look-placed : (off : ℕ) (f : Found) → lookOf (placed off f) ≡ lookOf f
+look-placed off (found.At k o h) = refl
+look-placed off found.Damaged = refl
+look-placed off found.Refused = refl
 
 -- two positions of one block are found alike
 pub look-same : (B N : ℕ) (e : Entry) (img : List ℕ) (p r : ℕ) → indexAt B p ≡ indexAt B r → lookIn B N e img p ≡ lookIn B N e img r
 unfolding walkTo
-look-same B N e img p r i = rw (walkTo, i) (walk-same _ _ N _ _ _ _ _ _)
+look-same B N e img p r i =
+    let top = indexAt B (e .size - 1) in
+    rw (walkTo, i) (ap lookOf (walk-placed (pointer img B) N (offsetAt B r) (offsetAt B p) (suc top) (indexAt B r) top (e .head) 0)
+    ∙ look-placed (offsetAt B p) (walk (suc top) (pointer img B) N (offsetAt B r) (indexAt B r) top (e .head) 0))
 
 -- the block of the last byte is the head, if that is a block
 pub look-head : (B N : ℕ) (e : Entry) (img : List ℕ) (p : ℕ) → p + 1 ≡ e .size → e .head < N → lookIn B N e img p ≡ Look.Found (e .head)
