@@ -6,7 +6,7 @@ ghost use lib.ListN.{length, take, drop, replicate};
 ghost use Rattle.span.specs.Words.{bytes32};
 ghost use Rattle.device.specs.Device.{refusesErase, refusesProgram, eraseOf, programOf, EraseGives, ProgramGives};
 ghost use Rattle.device.specs.Bounds.{Block, Room, Source};
-ghost use Rattle.device.specs.Health.{eachValid, NoneAbove, healthOk};
+ghost use Rattle.device.specs.Health.{eachValid, orFour, NoneAbove, healthOk};
 
 // What a block did with an erase.
 pub enum Erased {
@@ -20,18 +20,29 @@ pub enum Programmed {
     Refused,
 }
 
-// The first four runs of `q` bytes, ORed: none of those bytes is above it. A turn takes a byte of each run, which compiles to the faster loop.
-fn merged(health: &[u8], q: usize) -> u8
-    requires { ⌜ 4 * q ≤ length (now health) ⌝ }
-    ensures { λ r. ⌜ NoneAbove (now (health .entry)) 0 (4 * q) r ⌝ }
+// `t` ORed with four bytes, `q` places apart from place `at` on.
+fn with_four(t: u8, health: &[u8], at: usize, q: usize) -> u8
+    requires { ⌜ at + 3 * q < length (now health) ⌝ }
+    ensures { λ r. ⌜ r ≡ orFour (now (health .entry)) at q t ⌝ }
 {
-    let mut all: u8 = 0;
+    t | health[at] | health[at + q] | health[at + 2 * q] | health[at + 3 * q]
+}
+
+// The first eight runs of `q` bytes, ORed: none of those bytes is above it. A turn takes a byte of each run, and each half of the runs has an OR
+// of its own, which compiles to the fastest loop.
+fn merged(health: &[u8], q: usize) -> u8
+    requires { ⌜ 8 * q ≤ length (now health) ⌝ }
+    ensures { λ r. ⌜ NoneAbove (now (health .entry)) 0 (8 * q) r ⌝ }
+{
+    let mut low: u8 = 0;
+    let mut high: u8 = 0;
     let mut i: usize = 0;
     while i < q {
-        all = all | health[i] | health[q + i] | health[2 * q + i] | health[3 * q + i];
+        low = with_four(low, health, i, q);
+        high = with_four(high, health, 4 * q + i, q);
         i += 1;
     }
-    all
+    low | high
 }
 
 // The largest byte from `from` on: it is valid where all of them are.
@@ -49,7 +60,7 @@ fn worst(health: &[u8], from: usize) -> u8
     most
 }
 
-// Whether there is one health byte for each of `n` blocks, and each is a valid one. The OR settles it for all but the last three at most,
+// Whether there is one health byte for each of `n` blocks, and each is a valid one. The OR settles it for all but the last seven at most,
 // unless the card has both kinds of fault: then each byte is looked at.
 pub fn good_health(health: &[u8], n: u32) -> bool
     ensures { λ r. ⌜ r ≡ healthOk (now (health .entry)) n ⌝ }
@@ -57,9 +68,9 @@ pub fn good_health(health: &[u8], n: u32) -> bool
     if health.len() != n as usize {
         return false;
     }
-    let q = health.len() / 4;
+    let q = health.len() / 8;
     if merged(health, q) <= 2 {
-        return worst(health, 4 * q) <= 2;
+        return worst(health, 8 * q) <= 2;
     }
     worst(health, 0) <= 2
 }
