@@ -8,7 +8,7 @@ use lib.Dec.{ltb}
 use lib.Pow.{pow-pos}
 use Rattle.hops.specs.Walk.{ctz, pick}
 use Rattle.hops.proofs.Greedy.{pick-best}
-use Rattle.hops.proofs.Through.{pick-through, pick-last}
+use Rattle.hops.proofs.Through.{pick-through, pick-last, pick-next}
 use Rattle.ctz.specs.Lookup.{walk}
 use Rattle.ctz.specs.Runs.{seek}
 use Rattle.ctz.specs.declared.Found.{Found}
@@ -84,3 +84,19 @@ module _ (ptr : ℕ → ℕ → ℕ) (N head top : ℕ) where
     through-lost b =
         through ptr N 0 i p k 0 h (λ f. walk-damaged f ptr N 0 i i (ptr k (ctz i)) (suc h) b)
         (trail ptr N 0 (i + 2 ^ ctz i) (suc top) top head 0) e top l (omega arith) w
+
+-- ---- the index before the head's
+
+module _ (ptr : ℕ → ℕ → ℕ) (N off i head : ℕ) (w : suc i < 2 ^ 32) (b : head < N) where
+  next : walk (suc (suc i)) ptr N off i (suc i) head 0 ≡ walk (suc i) ptr N off i i (ptr head 0) 1
+  next =
+      let e : suc i - 1 ≡ i = omega arith in
+      walk-hop (suc i) ptr N off i (suc i) head 0 b (omega arith) ∙ rw (pick-next i w, e) refl
+
+  -- its block is the head's pointer 0,
+  pub next-at : ptr head 0 < N → walk (suc (suc i)) ptr N off i (suc i) head 0 ≡ At (ptr head 0) off 1
+  next-at l = next ∙ walk-at i ptr N off i i (ptr head 0) 1 l (omega arith)
+
+  -- and the lookup meets -84 where that is none
+  pub next-lost : N ≤ ptr head 0 → walk (suc (suc i)) ptr N off i (suc i) head 0 ≡ Damaged
+  next-lost l = next ∙ walk-damaged i ptr N off i i (ptr head 0) 1 l

@@ -55,3 +55,10 @@ pick-last i p h =
     let b : Best i (i + 2 ^ ctz i) (pick (i + 2 ^ ctz i) i) = pick-best (i + 2 ^ ctz i) i h (omega (arith, pow-pos (ctz i))) in
     le-antisymm (pow-below {n = 2 ^ ctz i} (omega (arith, b .reach)) (omega (arith, pow-suc 2 (ctz i), pow-pos (ctz i))))
     (b .best (ctz i) (dvd-add (2 ^ ctz i) (stored i p) (dvd-refl (2 ^ ctz i))) (omega arith))
+
+-- to the index before it leads pointer 0
+pub pick-next : (i : ℕ) → suc i < 2 ^ 32 → pick (suc i) i ≡ 0
+pick-next i h =
+    let b : Best i (suc i) (pick (suc i) i) = pick-best (suc i) i h (omega arith) in
+    let z : pick (suc i) i ≤ 0 = pow-below {n = 1} (omega (arith, b .reach)) (omega arith) in
+    omega arith

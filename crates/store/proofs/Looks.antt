@@ -10,20 +10,20 @@ use lib.Dec.{ltb}
 use Rattle.layout.specs.Layout.{indexAt, offsetAt, start}
 use Rattle.layout.specs.Place.{Served}
 use Rattle.layout.proofs.Places.{index-mono}
-use Rattle.layout.proofs.Served.{served, index-in, index-found}
+use Rattle.layout.proofs.Served.{served, index-in, index-found, index-below}
 use Rattle.card.specs.Blocks.{pointer}
 use Rattle.ctz.specs.declared.Found.{Found}
 use Rattle.ctz.specs.declared.Found.the-variants as found
 use Rattle.ctz.specs.Lookup.{walk, walkTo}
 use Rattle.ctz.proofs.Lookups.{found-tells}
 use Rattle.ctz.proofs.Walked.{walk-damaged, walk-at}
-use Rattle.ctz.proofs.Through.{placed, walk-placed}
+use Rattle.ctz.proofs.Through.{placed, walk-placed, next-at, next-lost}
 use Rattle.files.specs.declared.Entry.{Entry}
 use Rattle.store.specs.declared.old.Looked.the-variants as looked-as
 use Rattle.store.specs.Write.{Look, starts, looked, firstHead}
 use Rattle.store.specs.Store.{lookOf, lookIn}
-use Rattle.store.specs.Lookups.{lookedOf, keptWanted, tailWanted, keptOf, Looking}
-use Rattle.store.proofs.Index.{index-within, index-start, start-before, index-some, index-none, start-behind, index-behind}
+use Rattle.store.specs.Lookups.{lookedOf, keptWanted, tailWanted, keptOf, Looking, Behind}
+use Rattle.store.proofs.Index.{index-within, index-start, index-before, start-before, index-some, index-none, start-behind, index-behind}
 
 -- the offset that a lookup answers is not looked at
 look-placed : (off : ℕ) (f : Found) → lookOf (placed off f) ≡ lookOf f
@@ -50,6 +50,29 @@ pub look-headless : (B N : ℕ) (e : Entry) (img : List ℕ) (p : ℕ) → N ≤
 unfolding walkTo
 look-headless B N e img p h =
     ap lookOf (walk-damaged (indexAt B (e .size - 1)) (pointer img B) N (offsetAt B p) (indexAt B p) (indexAt B (e .size - 1)) (e .head) 0 h)
+
+-- the block before the head's is its pointer 0, if that is a block
+module _ {B : ℕ} (N : ℕ) (e : Entry) (img : List ℕ) {q first : ℕ} (h : Served B q) (s : Behind B q first) (z : q ≡ e .size) (b : e .head < N) where
+  above : suc (indexAt B (first - 1)) ≡ indexAt B (e .size - 1)
+  above =
+      let i : indexAt B (first - 1) ≡ indexAt B q - 1
+      = ap (λ (x : ℕ). indexAt B (x - 1)) (s .start) ∙ index-before h (omega (arith, s .start, s .some)) in
+      let t : indexAt B (e .size - 1) ≡ indexAt B q
+      = index-within h (e .size - 1) (omega (arith, s .start, s .inside)) (omega arith) in
+      omega (arith, index-some h (omega (arith, s .start, s .some)))
+
+  small : suc (indexAt B (first - 1)) < 2 ^ 32
+  small = omega (arith, above, index-below (served {p = e .size - 1} (h .sized) (omega (arith, h .word))))
+
+  pub look-next : pointer img B (e .head) 0 < N → lookIn B N e img (first - 1) ≡ Look.Found (pointer img B (e .head) 0)
+  unfolding walkTo
+  look-next l =
+      rw (walkTo, ← above) (ap lookOf (next-at (pointer img B) N (offsetAt B (first - 1)) (indexAt B (first - 1)) (e .head) small b l))
+
+  pub look-next-lost : N ≤ pointer img B (e .head) 0 → lookIn B N e img (first - 1) ≡ Look.Lost
+  unfolding walkTo
+  look-next-lost l =
+      rw (walkTo, ← above) (ap lookOf (next-lost (pointer img B) N (offsetAt B (first - 1)) (indexAt B (first - 1)) (e .head) small b l))
 
 -- a block that is found is below N
 pub look-below : {B N : ℕ} {e : Entry} {len : ℕ} (img : List ℕ) (p k : ℕ) → Looking B N e len → p < e .size → lookIn B N e img p ≡ Look.Found k → k < N

@@ -1,7 +1,8 @@
 -- The lookups of a write: what the inner functions answer and ask.
 use mathlib.Core.Bool.{Bool, true, false}
 use mathlib.Core.List.{List, [], _∷_, _++_}
-use Prim.Native.Nat.{ℕ, _+_, _-_, _≤_}
+use mathlib.Core.Path.{_≡_}
+use Prim.Native.Nat.{ℕ, _+_, _-_, _≤_, _<_}
 use lib.Dec.{ltb}
 use Rattle.layout.specs.Layout.{indexAt, start}
 use Rattle.card.specs.Card.{Card}
@@ -36,3 +37,9 @@ keptOf look B img q = foundIf (looked look img (keptWanted B q)) (firstHead look
 pub record Looking (B N : ℕ) (e : Entry) (len : ℕ) : Type 0 where
   pub card : Card B N len
   pub most : e .size ≤ sizeMax
+
+-- first is where the block of byte q - 1 starts, behind another block
+pub record Behind (B q first : ℕ) : Type 0 where
+  pub start : first ≡ start B (indexAt B q)
+  pub some : 0 < first
+  pub inside : first < q

@@ -2,14 +2,14 @@
 use files::Entry;
 use layout::Geometry;
 ghost use mathlib.Core.Path.{_≡_};
-ghost use Prim.Native.Nat.{_≤_, _<_};
+ghost use Prim.Native.Nat.{_-_, _≤_, _<_};
 ghost use lib.ListN.{length};
 ghost use Rattle.layout.specs.Layout.{indexAt, start};
 ghost use Rattle.layout.specs.Place.{Served};
 ghost use Rattle.files.specs.Table.{sizeMax};
 ghost use Rattle.store.specs.Write.{looked};
 ghost use Rattle.store.specs.Store.{lookIn};
-ghost use Rattle.store.specs.Lookups.{lookedOf, keptOf, tailWanted, Looking};
+ghost use Rattle.store.specs.Lookups.{lookedOf, keptOf, tailWanted, Looking, Behind};
 
 // What a lookup in a file's list finds; lost: -84.
 pub enum Looked {
@@ -49,6 +49,24 @@ pub fn look(b: u32, n: u32, image: &[u8], e: Entry, p: u32) -> Looked
     }
 }
 
+// The block before that of byte q - 1, which starts at `first`: one pointer of the head, where q is the size.
+fn look_before(b: u32, n: u32, image: &[u8], e: Entry, q: u32, first: u32) -> Looked
+    requires { ⌜ Looking b n e (length (now image)) × (q ≤ e .size) × Behind b q first ⌝ }
+    ensures { λ r. ⌜ r ≡ lookedOf (lookIn b n e (now (image .entry)) (first - 1)) ⌝ }
+{
+    if q == e.size {
+        if n <= e.head {
+            return Looked::Lost;
+        }
+        let block = card::pointer(image, b, e.head, 0);
+        if n <= block {
+            return Looked::Lost;
+        }
+        return Looked::Block(block);
+    }
+    look(b, n, image, e, first - 1)
+}
+
 // The block from which the first growth goes, that of byte q - 1, once the last kept block and the one that is copied are found.
 pub fn first_head(b: u32, n: u32, image: &[u8], e: Entry, q: u32) -> Looked
     requires { ⌜ Looking b n e (length (now image)) × (q ≤ e .size) ⌝ }
@@ -60,7 +78,7 @@ pub fn first_head(b: u32, n: u32, image: &[u8], e: Entry, q: u32) -> Looked
     let first = block_start(b, q);
     if 0 < first {
         if first < q {
-            let last = look(b, n, image, e, first - 1);
+            let last = look_before(b, n, image, e, q, first);
             match last {
                 Looked::Block(_) => {}
                 Looked::Lost => {

@@ -18,11 +18,8 @@ returns c =
 block-start-requires : tie.Need-block-start-requires
 block-start-requires c κs = search needs
 
-sub-look : tie.Need-sub-look
-sub-look c = search needs
-
-look-requires : tie.Need-look-requires
-look-requires c κs = search needs
+look-before-requires : tie.Need-look-before-requires
+look-before-requires c κs = search needs
 
 enum-told : tie.Need-enum-told
 enum-told c = search needs
@@ -37,19 +34,19 @@ returns-2 c =
     head-lost (lookIn (a .b) (a .n) (a .e)) (a .image .now) (a .b) (a .q) (served (s .pre .0 .card .sized) (omega arith))
     (look-same (a .b) (a .n) (a .e) (a .image .now)) _ (c .before .before .before .before .before .block-start .ensures)
     (c .before .before .before .before .if2 .taken) (c .before .before .before .if3 .taken)
-    (told-lost _ (sym (c .before .before .look .ensures) ∙ c .enum-told2 .given .1))
+    (told-lost _ (sym (c .before .before .look-before .ensures) ∙ c .enum-told2 .given .1))
 
-sub-look-2 : tie.Need-sub-look-2
-sub-look-2 c = search needs
+sub-look : tie.Need-sub-look
+sub-look c = search needs
 
-look-requires-2 : tie.Need-look-requires-2
-look-requires-2 c κs = search needs
+look-requires : tie.Need-look-requires
+look-requires c κs = search needs
 
 returns-3 : tie.Need-returns-3
 returns-3 c =
     let s = c .before .before .before .before .before in
     let a = s .args in
-    c .look2 .ensures ∙ ⊎-elim (λ w. head-inside (lookIn (a .b) (a .n) (a .e)) (a .image .now) (a .b) (a .q)
+    c .look .ensures ∙ ⊎-elim (λ w. head-inside (lookIn (a .b) (a .n) (a .e)) (a .image .now) (a .b) (a .q)
     (served (s .pre .0 .card .sized) (omega arith)) (look-same (a .b) (a .n) (a .e) (a .image .now)) _ (c .before .before .block-start .ensures) _
     (w .0 .taken) (w .1 .taken) (told-block _ _ (sym (w .2 .ensures) ∙ w .4 .given .1)))
     (λ v. ⊎-elim (λ w. head-border (lookIn (a .b) (a .n) (a .e)) (a .image .now) (a .b) (a .q) (served (s .pre .0 .card .sized) (omega arith))
@@ -64,11 +61,10 @@ first-head-spec =
     (tie.spec
     returns
     block-start-requires
-    sub-look
-    look-requires
+    look-before-requires
     enum-told
     enum-told-2
     returns-2
-    sub-look-2
-    look-requires-2
+    sub-look
+    look-requires
     returns-3)
