@@ -1,7 +1,7 @@
-//! One list on a card: lookup, visit, check. No table is needed.
+//! One list on a card: lookup and check. No table is needed.
 
 #[allow(unused_imports)]
-use crate::{ffi, raw, Error, Geometry, FILE_MAX, NULL};
+use crate::{raw, Error, Geometry, FILE_MAX, NULL};
 use std::fmt;
 
 /// The bytes of a card, to look at.
@@ -94,31 +94,6 @@ impl<'a> Image<'a> {
         }
     }
 
-    /// The blocks of a list, last index first, each index once.
-    ///
-    /// ```
-    /// # #[cfg(feature = "visit")] {
-    /// use tidmaruls::{Geometry, Image, List, Visited};
-    ///
-    /// let geometry = Geometry::new(128, 3)?;
-    /// let mut bytes = geometry.blank_image();
-    /// bytes[128..132].copy_from_slice(&2_u32.to_le_bytes());
-    /// let image = Image::new(geometry, &bytes)?;
-    /// let visit: Result<Vec<Visited>, _> = image.visit(List { head: 1, size: 129 })?.collect();
-    /// assert_eq!(visit?, [Visited { index: 1, block: 1 }, Visited { index: 0, block: 2 }]);
-    /// # }
-    /// # Ok::<(), tidmaruls::Error>(())
-    /// ```
-    #[cfg(feature = "visit")]
-    pub fn visit(&self, list: List) -> Result<Visit<'a>, Error> {
-        let begun = unsafe { ffi::tid_visit(self.geometry.crossing(), list.head, list.size) };
-        Error::told(begun.code, Error::Size(list.size))?;
-        Ok(Visit {
-            image: *self,
-            place: (begun.more != 0).then_some(begun.place),
-        })
-    }
-
     /// The first fault of a list; `None` if it is sound.
     #[cfg(feature = "check")]
     pub fn check(&self, list: List) -> Result<Option<raw::Fault>, Error> {
@@ -135,56 +110,6 @@ impl fmt::Debug for Image<'_> {
         shown.finish_non_exhaustive()
     }
 }
-
-/// A block that a visit hands over, and its index in the list.
-#[cfg(feature = "visit")]
-#[derive(Clone, Copy, PartialEq, Eq, Hash, Debug)]
-pub struct Visited {
-    /// The block's place in its list, from 0.
-    pub index: u32,
-    /// The block's number.
-    pub block: u32,
-}
-
-/// The blocks of a list, last index first; it ends after index 0, or after the first error.
-///
-/// A damaged list may name a block twice: then more blocks can come than the card has.
-#[cfg(feature = "visit")]
-#[derive(Clone, Debug)]
-pub struct Visit<'a> {
-    image: Image<'a>,
-    place: Option<ffi::Visit>,
-}
-
-#[cfg(feature = "visit")]
-impl Iterator for Visit<'_> {
-    type Item = Result<Visited, Error>;
-
-    fn next(&mut self) -> Option<Self::Item> {
-        let place = self.place.take()?;
-        let (bytes, length) = (self.image.bytes.as_ptr(), self.image.bytes.len());
-        let geometry = self.image.geometry.crossing();
-        let step = unsafe { ffi::tid_traverse(geometry, bytes, length, place) };
-        if let Err(error) = Error::told(step.code, Error::Unknown(step.code)) {
-            return Some(Err(error));
-        }
-        self.place = (step.more != 0).then_some(step.place);
-        Some(Ok(Visited {
-            index: place.index,
-            block: step.block,
-        }))
-    }
-
-    fn size_hint(&self) -> (usize, Option<usize>) {
-        match self.place {
-            None => (0, Some(0)),
-            Some(place) => (1, (place.index as usize).checked_add(1)),
-        }
-    }
-}
-
-#[cfg(feature = "visit")]
-impl std::iter::FusedIterator for Visit<'_> {}
 
 #[cfg(feature = "check")]
 impl fmt::Display for raw::Fault {

@@ -51,6 +51,8 @@ mod reader;
 mod table;
 #[cfg(feature = "full")]
 mod view;
+#[cfg(feature = "visit")]
+mod visit;
 #[cfg(feature = "full")]
 mod window;
 
@@ -60,8 +62,6 @@ pub use error::Error;
 pub use ffi::Entry;
 pub use geometry::{Geometry, Place};
 pub use image::{Image, List};
-#[cfg(feature = "visit")]
-pub use image::{Visit, Visited};
 #[cfg(feature = "check")]
 pub use raw::Fault;
 #[cfg(feature = "find")]
@@ -72,6 +72,8 @@ pub use reader::FileReader;
 pub use table::Table;
 #[cfg(feature = "full")]
 pub use view::View;
+#[cfg(feature = "visit")]
+pub use visit::{Visit, Visited};
 #[cfg(feature = "full")]
 pub use window::Window;
 

@@ -173,10 +173,12 @@ fn calls() {
         names.dedup();
         names
     };
-    let read = |path: &str| {
-        std::fs::read_to_string(folder().join(path)).expect("a file of the repository")
-    };
-    let header = names(&read("../../include/tidmaruls.h"));
-    assert_eq!(header, names(&read("src/ffi.rs")));
+    let read = |path: PathBuf| std::fs::read_to_string(path).expect("a file of the repository");
+    let modules = std::fs::read_dir(folder().join("src/ffi")).expect("a folder of the repository");
+    let declared: String = modules
+        .map(|module| read(module.expect("a module").path()))
+        .collect();
+    let header = names(&read(folder().join("../../include/tidmaruls.h")));
+    assert_eq!(header, names(&declared));
     assert_eq!(header.len(), 20);
 }
