@@ -1,10 +1,12 @@
 //! Random bytes and numbers at every exported call: each ends, answers the same twice, and leaves lent memory as promised.
-#![cfg_attr(not(feature = "full"), allow(dead_code))]
+#![cfg_attr(not(feature = "full"), allow(dead_code, unused_imports, unused_macros))]
 
 mod calls;
+mod cards;
+mod guarded;
 mod lent;
 
-use calls::{Call, Changes, CALLS};
+use calls::{Call, Changes};
 use lent::Lent;
 use numbers::Random;
 use std::collections::BTreeMap;
@@ -74,11 +76,12 @@ fn run(seed: u64, episodes: u32) -> (Tally, u64) {
     let mut random = Random::new(seed);
     let mut digest = DefaultHasher::new();
     let mut tally = Tally::new();
+    let calls = calls::all();
     for _ in 0..episodes {
         let mut lent = Lent::new(&mut random);
         for _ in 0..40 {
             lent.numbers(&mut random);
-            let call = &CALLS[random.below(CALLS.len() as u32) as usize];
+            let call = &calls[random.below(calls.len() as u32) as usize];
             let spoilt = random.one_in(5).then(|| lent.spoilt(&mut random));
             let (code, left) = tried(call, spoilt.as_ref().unwrap_or(&lent), &mut digest);
             *tally.entry((call.name, code)).or_default() += 1;
@@ -95,7 +98,7 @@ fn every_call() {
     let (tally, digest) = run(90, 2000);
     assert_eq!(run(90, 2000), (tally.clone(), digest));
     println!("random: all answers and memory together: {digest:016x}");
-    for call in CALLS {
+    for call in calls::all() {
         let codes: Vec<(i32, u32)> = tally
             .iter()
             .filter(|((name, _), _)| *name == call.name)
@@ -116,6 +119,7 @@ fn every_call() {
 #[test]
 fn slots_past_the_count() {
     let mut random = Random::new(91);
+    let calls = calls::all();
     for _ in 0..2000 {
         let mut lent = Lent::new(&mut random);
         lent.numbers(&mut random);
@@ -126,7 +130,7 @@ fn slots_past_the_count() {
             entry.size = random.number();
             entry.head = random.number();
         }
-        for call in CALLS {
+        for call in &calls {
             let (mut one, mut two) = (lent.clone(), other.clone());
             let (answer, same) = ((call.run)(&mut one), (call.run)(&mut two));
             assert_eq!(
