@@ -1,6 +1,6 @@
 //! The words of the command line.
 
-use crate::help::{self, Command};
+use crate::commands::{self, Command};
 use crate::trouble::Trouble;
 use crate::unknown;
 use std::path::PathBuf;
@@ -35,7 +35,7 @@ impl Arguments {
             return Err(Trouble::usage(text));
         };
         let name = &words[place];
-        let command = help::command(name).ok_or_else(|| unknown::command(name))?;
+        let command = commands::named(name).ok_or_else(|| unknown::command(name))?;
         let mut parsed = Arguments {
             command: name.clone(),
             given: Vec::new(),
@@ -92,7 +92,7 @@ impl Arguments {
         }
         let missing = || {
             Trouble::usage(format!("{name} needs a value: write it after it."))
-                .with_hint(help::usage(command))
+                .with_hint(command.usage())
         };
         let value = joined
             .or_else(|| rest.next().cloned())
@@ -108,7 +108,7 @@ impl Arguments {
                 "`card {}` does not know what to do with `{word}`: leave it out.",
                 command.name
             );
-            return Err(Trouble::usage(text).with_hint(help::usage(command)));
+            return Err(Trouble::usage(text).with_hint(command.usage()));
         }
         if count < command.least {
             let names: Vec<&str> = command
@@ -122,7 +122,7 @@ impl Arguments {
                 command.name,
                 names.join(" and ")
             );
-            return Err(Trouble::usage(text).with_hint(help::usage(command)));
+            return Err(Trouble::usage(text).with_hint(command.usage()));
         }
         Ok(self)
     }
@@ -166,8 +166,8 @@ impl Arguments {
                 self.command
             ))
         };
-        let missing = || match help::command(&self.command) {
-            Some(command) => missing().with_hint(help::usage(command)),
+        let missing = || match commands::named(&self.command) {
+            Some(command) => missing().with_hint(command.usage()),
             None => missing(),
         };
         self.option_number(name)?.ok_or_else(missing)

@@ -2,6 +2,7 @@
 
 mod arguments;
 mod check;
+mod commands;
 mod fault;
 mod files;
 mod folder;

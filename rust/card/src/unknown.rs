@@ -1,6 +1,6 @@
 //! Words that are not known, and what may have been meant.
 
-use crate::help::{self, Command};
+use crate::commands::{Command, COMMANDS};
 use crate::trouble::Trouble;
 
 /// The known name that is nearest to a word, where one is near.
@@ -25,7 +25,7 @@ fn near<'a>(word: &str, names: impl Iterator<Item = &'a str>) -> Option<&'a str>
 
 /// A command that is none.
 pub fn command(word: &str) -> Trouble {
-    let names = || help::COMMANDS.iter().map(|command| command.name);
+    let names = || COMMANDS.iter().map(|command| command.name);
     let text = match near(word, names()) {
         Some(name) => format!("There is no command `{word}`: did you mean `{name}`?"),
         None => format!(
@@ -57,5 +57,5 @@ pub fn option(word: &str, command: &Command) -> Trouble {
             names().collect::<Vec<_>>().join(", ")
         ),
     };
-    Trouble::usage(text).with_hint(help::usage(command))
+    Trouble::usage(text).with_hint(command.usage())
 }
