@@ -1,4 +1,4 @@
-//! Lists made by the oracle's own growth, and what two windows must agree on.
+//! Lists made by the oracle's own growth.
 
 use crate::cards::{noise, List};
 use crate::Random;
@@ -25,13 +25,4 @@ pub fn grow(oracle: &mut Oracle, size: u32, random: &mut Random) -> List {
         list.size += length;
     }
     list
-}
-
-/// Whether two windows agree: all numbers, and the map from `next` on within the lookahead.
-pub fn same_window(ours: &tidmaruls::raw::Window, theirs: &oracle::Window, lookahead: u32) -> bool {
-    let bit = |map: &[u8; 64], place: u32| map[place as usize / 8] >> (place % 8) & 1;
-    (ours.start, ours.next, ours.size, ours.ckpoint)
-        == (theirs.start, theirs.next, theirs.size, theirs.ckpoint)
-        && (ours.next..8 * lookahead).all(|at| bit(&ours.map, at) == bit(&theirs.map, at))
-        && ours.map[lookahead as usize..].iter().all(|&byte| byte == 0)
 }

@@ -1,5 +1,7 @@
 //! What the comparisons share: positions at block borders, cards, plain models, the fixed list.
 
+#[cfg(oracle)]
+pub mod both;
 pub mod cards;
 pub mod fixed;
 #[cfg(oracle)]

@@ -20,7 +20,7 @@ fn worked_values() {
 #[cfg(oracle)]
 mod with_oracle {
     use compare::cards::{self, geometry, List};
-    use compare::{grown, Random};
+    use compare::{both, Random};
     use oracle::Oracle;
     use tidmaruls::raw::{fresh, Card};
 
@@ -48,11 +48,9 @@ mod with_oracle {
                 let blocks = std::mem::replace(&mut free, rest);
                 lists.push(cards::lay(&mut card.image, 128, blocks, random));
             }
-            let mut oracle = Oracle::new(128, block_count, lookahead, start);
-            oracle.device.image.copy_from_slice(&card.image);
             let mut bench = Bench {
+                oracle: both::oracle_on(&card),
                 card,
-                oracle,
                 lists,
                 allocations: 0,
             };
@@ -76,12 +74,7 @@ mod with_oracle {
         }
 
         fn agree(&self, what: &str) {
-            let theirs = self.oracle.window();
-            assert!(
-                grown::same_window(&self.card.window, &theirs, self.card.lookahead),
-                "{what}: {:?}, oracle {theirs:?}",
-                self.card.window
-            );
+            both::same_window(&self.card, &self.oracle, what);
         }
 
         fn alloc(&mut self) -> bool {

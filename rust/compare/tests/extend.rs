@@ -4,9 +4,9 @@
 #[cfg(oracle)]
 mod with_oracle {
     use compare::cards::{self, BLOCK_SIZES};
-    use compare::{grown, Random};
+    use compare::{both, Random};
     use oracle::Oracle;
-    use tidmaruls::raw::{Card, Geometry};
+    use tidmaruls::raw::{Card, Geometry, NULL};
 
     /// The same card on both sides, and the files that both list.
     struct Bench {
@@ -17,25 +17,20 @@ mod with_oracle {
 
     impl Bench {
         fn new(geometry: Geometry, random: &mut Random) -> Bench {
-            let (block_size, block_count) = (geometry.block_size, geometry.block_count);
+            let block_count = geometry.block_count;
             let lookahead = cards::lookahead(random);
-            let start = random.below(block_count);
-            let mut card = cards::blank(geometry, lookahead, start);
+            let mut card = cards::blank(geometry, lookahead, random.below(block_count));
             card.image = cards::noise(card.image.len(), block_count, random);
-            let mut oracle = Oracle::new(block_size, block_count, lookahead, start);
-            oracle.device.image.copy_from_slice(&card.image);
             if random.one_in(2) {
                 let share = random.between(2, 20);
-                card.health
-                    .iter_mut()
-                    .for_each(|health| *health = random.one_in(share) as u8);
-                oracle.device.health.copy_from_slice(&card.health);
+                for health in &mut card.health {
+                    *health = random.one_in(share) as u8;
+                }
             }
-            let files = vec![(tidmaruls::raw::NULL, 0); random.between(1, 8) as usize];
             Bench {
+                oracle: both::oracle_on(&card),
                 card,
-                oracle,
-                files,
+                files: vec![(NULL, 0); random.between(1, 8) as usize],
             }
         }
 
@@ -60,12 +55,7 @@ mod with_oracle {
             let theirs = self.oracle.extend(head, size);
             let about = (self.card.geometry, head, size);
             assert_eq!(ours, theirs, "{about:?}");
-            let (lookahead, window) = (self.card.lookahead, self.oracle.window());
-            assert!(
-                grown::same_window(&self.card.window, &window, lookahead),
-                "{about:?}: {:?}, oracle {window:?}",
-                self.card.window
-            );
+            both::same_window(&self.card, &self.oracle, about);
             assert!(self.card.image == self.oracle.device.image, "{about:?}");
             ours
         }
@@ -96,7 +86,7 @@ mod with_oracle {
                     Ok(_) if random.one_in(8) => {}
                     Ok((block, offset)) => self.fill(file, block, offset, random),
                     Err(_) => {
-                        self.files[file] = (tidmaruls::raw::NULL, 0);
+                        self.files[file] = (NULL, 0);
                         self.ckpoint();
                     }
                 }

@@ -4,7 +4,7 @@
 #[cfg(oracle)]
 mod with_oracle {
     use compare::cards::{self, BLOCK_SIZES};
-    use compare::{grown, layout, Random};
+    use compare::{both, grown, layout, Random};
     use oracle::{File, Oracle};
     use tidmaruls::raw::{find, Card};
 
@@ -73,8 +73,7 @@ mod with_oracle {
     fn runs_of_blocks() {
         let mut random = Random::new(51);
         let (card, _) = laid_card(128, 4_200, &mut random);
-        let mut oracle = Oracle::new(128, 4_200, 64, 0);
-        oracle.device.image.copy_from_slice(&card.image);
+        let mut oracle = both::oracle_on(&card);
         let mut reads = 0;
         for first in [0, 1, 2, 1_022, 1_023, 1_024, 1_025, 2_047, 2_048] {
             for more in [

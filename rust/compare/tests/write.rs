@@ -5,7 +5,7 @@
 mod with_oracle {
     use compare::cards::{self, BLOCK_SIZES};
     use compare::plain::good_unlisted;
-    use compare::{grown, layout, Random};
+    use compare::{both, grown, layout, Random};
     use oracle::{File, Oracle};
     use tidmaruls::raw::{Card, Geometry};
 
@@ -31,14 +31,7 @@ mod with_oracle {
         card.table = cards::table(&files);
         card.image.copy_from_slice(&oracle.device.image);
         card.health.copy_from_slice(&oracle.device.health);
-        let window = oracle::Window {
-            map: card.window.map,
-            start,
-            next: 0,
-            size: 0,
-            ckpoint: block_count,
-        };
-        oracle.set_window(window);
+        let oracle = both::oracle_on(&card);
         (card, oracle)
     }
 

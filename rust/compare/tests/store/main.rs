@@ -2,6 +2,8 @@
 #![cfg(feature = "store")]
 
 mod bench;
+mod calls;
+mod choices;
 
 use bench::{Bench, Tally};
 use compare::cards::{self, BLOCK_SIZES};
