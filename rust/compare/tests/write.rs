@@ -9,7 +9,7 @@ mod with_oracle {
     use oracle::{File, Oracle};
     use tidmaruls::raw::{Card, Geometry};
 
-    /// A card with some lists grown by the oracle as files 0, 1, .., a fresh window, and some blocks that refuse erase.
+    /// A card with some lists grown by the oracle as files 0, 1, .., a fresh window, and some blocks that refuse erase or program.
     fn grown_card(geometry: Geometry, random: &mut Random) -> (Card, Oracle) {
         let (block_size, block_count) = (geometry.block_size, geometry.block_count);
         let (lookahead, start) = (cards::lookahead(random), random.below(block_count));
@@ -31,6 +31,10 @@ mod with_oracle {
         card.table = cards::table(&files);
         card.image.copy_from_slice(&oracle.device.image);
         card.health.copy_from_slice(&oracle.device.health);
+        // no list has a block that refuses its erase: either fault may stand there
+        for health in card.health.iter_mut().filter(|health| **health == 1) {
+            *health = random.pick(&[1, 2]);
+        }
         let oracle = both::oracle_on(&card);
         (card, oracle)
     }
