@@ -96,6 +96,12 @@ impl Lent {
             held: random.below(3),
             after: random.below(count + 1),
         };
+        self.slices(random);
+    }
+
+    /// Another buffer and other data, a third of the time a few bytes like those of a saved table.
+    fn slices(&mut self, random: &mut Random) {
+        let whole = self.image.length() as u32;
         let shift = random.below(12);
         let length = random.below(whole + 2) >> shift;
         self.buffer = Guarded::new(&random.bytes(length as usize));

@@ -1,6 +1,6 @@
 //! Block lists: a number or a position that the Rust does not test.
 
-use super::setup::{both, place};
+use super::{both, place};
 use oracle::Oracle;
 use std::panic::catch_unwind;
 use tidmaruls::raw::{find, index, visit};

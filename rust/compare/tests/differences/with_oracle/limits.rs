@@ -1,6 +1,6 @@
 //! Values outside the rules: refused here, taken by the Rust.
 
-use super::setup::{both, place, write};
+use super::{both, place, write};
 use compare::cards::table;
 use oracle::File;
 use tidmaruls::raw::{check, find, visit, Window, FILE_MAX, NULL};

@@ -1,6 +1,6 @@
 //! One growth: a head or a pointer that the Rust does not test, and a refused block.
 
-use super::setup::both;
+use super::both;
 use compare::cards::{pointer, put_pointer};
 use tidmaruls::raw::{Card, NULL};
 

@@ -1,6 +1,6 @@
 //! Reads and writes: the order of lookups, copies and checkpoints.
 
-use super::setup::{both, write};
+use super::{both, write};
 use compare::cards::{put_pointer, table};
 use oracle::{File, Oracle};
 use tidmaruls::raw::{Card, NULL};

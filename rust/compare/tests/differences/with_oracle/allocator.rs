@@ -1,6 +1,6 @@
 //! The scan, the map and the counts of an allocation.
 
-use super::setup::both;
+use super::both;
 use compare::cards::table;
 
 /// The one block is marked in the place of block 1, and so there is none to take.
