@@ -2,25 +2,27 @@
 use mathlib.Core.Path.{_≡_, refl, sym, ap, _∙_}
 use mathlib.Core.Bool.{Bool, true, false}
 use mathlib.Core.List.{List}
-use Prim.Native.Nat.{ℕ, _+_, _-_, _*_, min, max, _≤_, _<_}
+use Prim.Native.Nat.{ℕ, _+_, _-_, min, max, _≤_, _<_}
 use native.Mathlib.Nat.{min-le-right}
 use native.Mathlib.Omega.{arith}
-use borrow.Author.Tests.{lt-ltb, le-ltb, leb-true, leb-false}
+use borrow.Author.Tests.{leb-true, leb-false}
 use lib.Dec.{leb}
 use lib.ListN.{length, take, drop, replicate, length-drop, drop-of-length-le}
 use lib.Seq.{take-all, take-nil}
 use Rattle.device.specs.declared.Programmed.{Programmed}
 use Rattle.device.specs.declared.Programmed.the-variants.{Stored, Refused}
+use Rattle.device.specs.Bounds.{Room}
 use Rattle.device.specs.Device.{stored, refusesProgram, ProgramOut, programOf, ProgramGives}
 use Rattle.device.proofs.Steps.{program-stored, told-stored, told-refused}
 use Rattle.files.specs.declared.Entry.{Entry}
-use Rattle.grow.specs.Grow.{part}
+use Rattle.files.specs.Table.{sizeMax}
 use Rattle.grow.specs.Attempt.{Linking}
+use Rattle.grow.proofs.Rooms.{room-of}
 use Rattle.store.specs.declared.block.Filled.{Filled}
-use Rattle.store.specs.declared.block.Filled.the-variants.{Done, Spoiled, Damaged}
-use Rattle.store.specs.Write.{Job, over, new, Look, fronted, tailed}
-use Rattle.store.specs.Lookups.{Looking}
-use Rattle.store.specs.Fill.{frontOf, FillOut, share, tailOf, fillOf, FillGives, Filling}
+use Rattle.store.specs.declared.block.Filled.the-variants.{Spoiled}
+use Rattle.store.specs.Write.{Job, over, new, Look, fronted}
+use Rattle.store.specs.Store.{lookIn, jobOf}
+use Rattle.store.specs.Fill.{frontOf, FillOut, share, tailOf, fillOf, FillGives, Tailing, Filling}
 
 -- ---- a run of the data, cut to what there is
 
@@ -94,16 +96,10 @@ module _ (health : List ℕ) (B k off s n pos : ℕ) (src img : List ℕ) where
       go true e = (e, ap (λ (o : ProgramOut). o .image) (front-refused e))
       go false e = let z : Stored ≡ Refused = sym (ap (λ (o : ProgramOut). o .answer) (front-stored e)) ∙ t in let y : _≡_ {A = ℕ} 0 1 = cc in absurd (omega arith)
 
--- ---- the tail
-
-tail-stored : (health : List ℕ) (B k off s m ob over at : ℕ) (img : List ℕ) → at ≡ over - s → refusesProgram health k ≡ false
-    → {q : Programmed} {img₁ : List ℕ} → ProgramGives (programOf health B k (off + at) (take (m - at) (drop (ob * B + (off + at)) img)) img) q img₁
-    → img₁ ≡ tailed B k off s m ob over img
-unfolding tailed part
-tail-stored health B k off s m ob over at img ea r {q} {img₁} g =
-    g .image ∙ ap (λ (o : ProgramOut). o .image) (program-stored health B k (off + at) (take (m - at) (drop (ob * B + (off + at)) img)) img r) ∙ rw (tailed, part, ← ea)
-
 -- ---- the whole block
+
+pub filled : {o : FillOut} (r : Filled) (after : List ℕ) → o ≡ record { answer = r; image = after } → FillGives o r after
+filled r after e = rw e (record { answer = refl; image = refl })
 
 -- the block's share, as the code has it
 pub share-is : (B : ℕ) (j : Job) (off s y m : ℕ) → y ≡ over j - j .old → m ≡ min (j .old + y - s) (B - off) → m ≡ share B j off s
@@ -111,33 +107,19 @@ share-is B j off s y m e f =
     let w : j .old + y ≡ new j = omega arith in
     f ∙ ap (λ (x : ℕ). min (x - s) (B - off)) w
 
--- tail is due below the old size only
-pub tail-below : (B : ℕ) (j : Job) (off s m at : ℕ) → m ≡ share B j off s → at ≡ over j - s → at < m → s + at < j .old
-tail-below B j off s m at e f l = below (j .old) (over j) s (B - off) m at e f l
-  where
-    below : (a b s r m at : ℕ) → m ≡ min (max a b - s) r → at ≡ b - s → at < m → s + at < a
-    below a b s r m at e f h = omega arith
-
 -- the runs stay in the block
 pub share-fits : (B : ℕ) (j : Job) (off s m : ℕ) → m ≡ share B j off s → off < B → off + m ≤ B
 share-fits B j off s m e l = omega (arith, min-le-right (new j - s) (B - off))
 
-pub tail-fits : (B off m at : ℕ) → off + m ≤ B → at < m → off + at + (m - at) ≤ B
-tail-fits B off m at h l = omega arith
-
 pub gap-fits : (B off m x gap : ℕ) → off + m ≤ B → gap ≡ min x m → off + gap ≤ B
 gap-fits B off m x gap h e = omega (arith, min-le-right x m)
 
-module _ {B N : ℕ} {e : Entry} {pos : ℕ} {src : List ℕ} {k off s : ℕ} {image health : List ℕ} (f : Filling B N e pos src k off s image health)
-    (now : List ℕ) (same : length now ≡ length image) where
-  pub filling-link : Linking B N k now health
-  filling-link = record { card = rw same (f .card); known = f .known; block = f .block }
+-- tail is due below the old size only
+tail-below : (a b s r m at : ℕ) → m ≡ min (max a b - s) r → at ≡ b - s → at < m → s + at < a
+tail-below a b s r m at e f h = omega arith
 
-  pub filling-look : Looking B N e (length now)
-  filling-look = record { card = rw same (f .card); most = f .most }
-
-pub filled : {o : FillOut} (r : Filled) (after : List ℕ) → o ≡ record { answer = r; image = after } → FillGives o r after
-filled r after e = rw e (record { answer = refl; image = refl })
+share-ends : (a b s r m : ℕ) → m ≡ min (max a b - s) r → s < max a b → s + m ≤ max a b
+share-ends a b s r m e l = omega arith
 
 module _ (look : List ℕ → ℕ → Look) (health : List ℕ) (B : ℕ) (j : Job) (k off s : ℕ) (img : List ℕ) where
   pub fill-refused : refusesProgram health k ≡ true → fillOf look health B j k off s img ≡ record { answer = Spoiled; image = img }
@@ -145,40 +127,49 @@ module _ (look : List ℕ → ℕ → Look) (health : List ℕ) (B : ℕ) (j : J
   fill-refused e = rw (fillOf, e)
 
   pub fill-goes : refusesProgram health k ≡ false
-      → fillOf look health B j k off s img ≡ tailOf look B j k off s (fronted B k off s (share B j off s) (j .pos) (j .src) img)
+      → fillOf look health B j k off s img
+      ≡ tailOf look B k off s (share B j off s) (over j) (fronted B k off s (share B j off s) (j .pos) (j .src) img)
   unfolding fillOf
   fill-goes e = rw (fillOf, e)
 
-  -- m is the block's share, img₁ the image behind the front
-  module _ (m : ℕ) (em : m ≡ share B j off s) {r : Programmed} {img₁ : List ℕ}
-      (p : ProgramGives (frontOf health B k off s m (j .pos) (j .src) img) r img₁) where
-    pub fill-spoiled : r ≡ Refused → FillGives (fillOf look health B j k off s img) Spoiled img₁
-    fill-spoiled e =
-        let t = told-spoiled health B k off s m (j .pos) (j .src) img (sym (p .answer) ∙ e) in
-        filled Spoiled img₁ (rw (p .image, t .1) (fill-refused (t .0)))
+-- the same by the code's numbers: m is the block's share
+module _ {B N : ℕ} {e : Entry} {pos : ℕ} {src : List ℕ} {k off s : ℕ} {image health : List ℕ} (f : Filling B N e pos src k off s image health)
+    {y m : ℕ} (ey : y ≡ pos + length src - e .size) (em : m ≡ min (e .size + y - s) (B - off)) where
+  shared : m ≡ share B (jobOf e pos src) off s
+  shared = share-is B (jobOf e pos src) off s y m ey em
 
-    module _ (e : r ≡ Stored) where
-      begun : (refusesProgram health k ≡ false) × (fillOf look health B j k off s img ≡ tailOf look B j k off s img₁)
-      begun =
-          let t = told-front health B k off s m (j .pos) (j .src) img (sym (p .answer) ∙ e) in
-          (t .0, rw (p .image, t .1, em) (fill-goes (t .0)))
+  fits : off + m ≤ B
+  fits = share-fits B (jobOf e pos src) off s m shared (f .room)
 
-      module _ (at : ℕ) (ea : at ≡ over j - s) where
-        pub fill-whole : m ≤ at → FillGives (fillOf look health B j k off s img) (Done (s + m)) img₁
-        unfolding tailOf
-        fill-whole l = filled (Done (s + m)) img₁ (begun .1 ∙ rw (tailOf, ← em, ← ea, le-ltb at m l, ← em))
+  pub front-asks : Room B k off m image health × (length src ≤ sizeMax)
+  front-asks =
+      let link : Linking B N k image health = record { card = f .card; known = f .known; block = f .block } in
+      (room-of off m image link refl fits, omega (arith, f .fits))
 
-        module _ (l : at < m) where
-          pub fill-lost : look img₁ (s + at) ≡ Look.Lost → FillGives (fillOf look health B j k off s img) Damaged img₁
-          unfolding tailOf
-          fill-lost f = filled Damaged img₁ (begun .1 ∙ rw (tailOf, ← em, ← ea, lt-ltb at m l, ← ea, f))
+  module _ {r : Programmed} {img₁ : List ℕ} (p : ProgramGives (frontOf health B k off s m pos src image) r img₁) where
+    pub fill-spoiled : r ≡ Refused → FillGives (fillOf (lookIn B N e) health B (jobOf e pos src) k off s image) Spoiled img₁
+    fill-spoiled x =
+        let t = told-spoiled health B k off s m pos src image (sym (p .answer) ∙ x) in
+        filled Spoiled img₁ (rw (p .image, t .1) (fill-refused (lookIn B N e) health B (jobOf e pos src) k off s image (t .0)))
 
-          pub fill-tailed : (ob : ℕ) → look img₁ (s + at) ≡ Look.Found ob → {q : Programmed} {img₂ : List ℕ}
-              → ProgramGives (programOf health B k (off + at) (take (m - at) (drop (ob * B + (off + at)) img₁)) img₁) q img₂
-              → FillGives (fillOf look health B j k off s img) (Done (s + m)) img₂
-          unfolding tailOf
-          fill-tailed ob f {q} {img₂} g =
-              filled (Done (s + m)) img₂
-              (begun .1
-              ∙ rw (tailOf, ← em, ← ea, lt-ltb at m l, ← ea, f, ← em)
-              (ap (λ (i : List ℕ). record { answer = Done (s + m); image = i }) (sym (tail-stored health B k off s m ob (over j) at img₁ ea (begun .0) g))))
+    module _ (x : r ≡ Stored) where
+      stores : (refusesProgram health k ≡ false) × (frontOf health B k off s m pos src image .image ≡ fronted B k off s m pos src image)
+      stores = told-front health B k off s m pos src image (sym (p .answer) ∙ x)
+
+      pub tail-asked : length img₁ ≡ length image → Tailing B N e k off s m (pos + length src) img₁ health
+      tail-asked same =
+          record {
+            card = rw same (f .card);
+            known = f .known;
+            most = f .most;
+            block = f .block;
+            takes = stores .0;
+            fits = fits;
+            whole = omega (arith, share-ends (e .size) (pos + length src) s (B - off) m shared (f .left), f .most, f .fits);
+            below = λ l. tail-below (e .size) (pos + length src) s (B - off) m (pos + length src - s) shared refl l;
+          }
+
+      pub fill-on : {q : Filled} {after : List ℕ} → FillGives (tailOf (lookIn B N e) B k off s m (pos + length src) img₁) q after
+          → FillGives (fillOf (lookIn B N e) health B (jobOf e pos src) k off s image) q after
+      fill-on g =
+          rw (fill-goes (lookIn B N e) health B (jobOf e pos src) k off s image (stores .0), ← shared, ← stores .1, ← p .image) g

@@ -2,6 +2,7 @@
 pub mod Index
 pub mod Looks
 pub mod Fills
+pub mod Tails
 pub mod Turns
 pub mod Goes
 pub mod Gaps

@@ -56,13 +56,13 @@ module _ {W : Type 0} (look : List ℕ → ℕ → Look) (tries : W → ℕ) (al
 
       -- the tail, as the filling of the block has it
       tail-turn : (i : List ℕ) → filledOf look B j k off s (share B j off s) i w₁ (λ i. writeOf look tries alloc m health B N j w₁ k (s + share B j off s) i)
-          ≡ onFill (tailOf look B j k off s i) (λ s′ i. writeOf look tries alloc m health B N j w₁ k s′ i) (λ i. writeOf look tries alloc m health B N j w₁ h s i) w₁
+          ≡ onFill (tailOf look B k off s (share B j off s) (over j) i) (λ s′ i. writeOf look tries alloc m health B N j w₁ k s′ i) (λ i. writeOf look tries alloc m health B N j w₁ h s i) w₁
       unfolding filledOf tailOf
       tail-turn i = go (ltb (over j - s) (share B j off s)) refl (look i (s + (over j - s))) refl
         where
           go : (x : Bool) → ltb (over j - s) (share B j off s) ≡ x → (y : Look) → look i (s + (over j - s)) ≡ y
               → filledOf look B j k off s (share B j off s) i w₁ (λ i. writeOf look tries alloc m health B N j w₁ k (s + share B j off s) i)
-              ≡ onFill (tailOf look B j k off s i) (λ s′ i. writeOf look tries alloc m health B N j w₁ k s′ i) (λ i. writeOf look tries alloc m health B N j w₁ h s i) w₁
+              ≡ onFill (tailOf look B k off s (share B j off s) (over j) i) (λ s′ i. writeOf look tries alloc m health B N j w₁ k s′ i) (λ i. writeOf look tries alloc m health B N j w₁ h s i) w₁
           go false x y f = rw (filledOf, tailOf, x)
           go true x (Look.Found ob) f = rw (filledOf, tailOf, x, f)
           go true x Look.Lost f = rw (filledOf, tailOf, x, f)

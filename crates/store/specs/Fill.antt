@@ -32,14 +32,14 @@ pub record FillOut : Type 0 where
 abbrev pub share : ℕ → Job → ℕ → ℕ → ℕ
 share B j off s = min (new j - s) (B - off)
 
--- the tail, behind the front
-unfoldable pub tailOf : (List ℕ → ℕ → Look) → ℕ → Job → ℕ → ℕ → ℕ → List ℕ → FillOut
-tailOf look B j k off s img =
-    elim (ltb (over j - s) (share B j off s)) [
-      | false ↦ record { answer = Done (s + share B j off s); image = img }
-      | true ↦ elim (look img (s + (over j - s))) [
+-- The tail, behind the front: of the m positions from s on, those from `past` on come from the old block of the same index.
+unfoldable pub tailOf : (List ℕ → ℕ → Look) → ℕ → ℕ → ℕ → ℕ → ℕ → ℕ → List ℕ → FillOut
+tailOf look B k off s m past img =
+    elim (ltb (past - s) m) [
+      | false ↦ record { answer = Done (s + m); image = img }
+      | true ↦ elim (look img (s + (past - s))) [
         | Look.Lost ↦ record { answer = Damaged; image = img }
-        | Look.Found ob ↦ record { answer = Done (s + share B j off s); image = tailed B k off s (share B j off s) ob (over j) img }
+        | Look.Found ob ↦ record { answer = Done (s + m); image = tailed B k off s m ob past img }
       ]
     ]
 
@@ -48,7 +48,7 @@ unfoldable pub fillOf : (List ℕ → ℕ → Look) → List ℕ → ℕ → Job
 fillOf look health B j k off s img =
     elim (refusesProgram health k) [
       | true ↦ record { answer = Spoiled; image = img }
-      | false ↦ tailOf look B j k off s (fronted B k off s (share B j off s) (j .pos) (j .src) img)
+      | false ↦ tailOf look B k off s (share B j off s) (over j) (fronted B k off s (share B j off s) (j .pos) (j .src) img)
     ]
 
 -- r is the answer and `after` the image that a definition gives
@@ -65,3 +65,14 @@ pub record Filling (B N : ℕ) (e : Entry) (pos : ℕ) (src : List ℕ) (k off s
   pub block : k < N
   pub room : off < B
   pub left : s < new (jobOf e pos src)
+
+-- what the tail asks: a card with a health byte for each block, a block that takes it, and that it lies in the block and in the old file
+pub record Tailing (B N : ℕ) (e : Entry) (k off s m past : ℕ) (image health : List ℕ) : Type 0 where
+  pub card : Card B N (length image)
+  pub known : N ≤ length health
+  pub most : e .size ≤ sizeMax
+  pub block : k < N
+  pub takes : refusesProgram health k ≡ false
+  pub fits : off + m ≤ B
+  pub whole : s + m ≤ sizeMax
+  pub below : past - s < m → s + (past - s) < e .size

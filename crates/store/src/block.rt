@@ -11,7 +11,7 @@ ghost use Rattle.device.specs.Device.{ProgramGives};
 ghost use Rattle.device.specs.Bounds.{Room};
 ghost use Rattle.files.specs.Table.{sizeMax};
 ghost use Rattle.store.specs.Store.{lookIn, jobOf};
-ghost use Rattle.store.specs.Fill.{frontOf, fillOf, FillGives, Filling};
+ghost use Rattle.store.specs.Fill.{frontOf, tailOf, fillOf, FillGives, Tailing, Filling};
 
 // What filling a new block gives: the size so far, that the block refused, or -84.
 pub enum Filled {
@@ -60,7 +60,39 @@ fn front(
     )
 }
 
-// Block `k` filled from position `s` on: gap, data, and the tail of the old file from its block of the same index.
+// The tail of the old file goes behind the front of the `m` positions from `s` on, from position `past` on: from its block of the same index.
+fn tail(
+    image: &mut [u8],
+    health: &[u8],
+    b: u32,
+    n: u32,
+    e: Entry,
+    k: u32,
+    off: u32,
+    s: u32,
+    m: u32,
+    past: u32,
+) -> Filled
+    requires { ⌜ Tailing b n e k off s m past (now image) (now health) ⌝ }
+    ensures { λ r. ⌜ FillGives
+        (tailOf (lookIn b n e) b k off s m past (now (image .entry)))
+        r (now (image .exit)) ⌝ }
+{
+    let at = beyond(past, s);
+    if m <= at {
+        return Filled::Done(s + m);
+    }
+    let old = look(b, n, &image[..], e, s + at);
+    match old {
+        Looked::Block(block) => {
+            device::program_copy(image, health, b, k, off + at, block, off + at, m - at);
+            Filled::Done(s + m)
+        }
+        Looked::Lost => Filled::Damaged,
+    }
+}
+
+// Block `k` filled from position `s` on: gap and data, then the tail of the old file.
 pub fn fill_block(
     image: &mut [u8],
     health: &[u8],
@@ -78,26 +110,12 @@ pub fn fill_block(
         (fillOf (lookIn b n e) (now (health .entry)) b (jobOf e pos (now («data» .entry))) k off s (now (image .entry)))
         r (now (image .exit)) ⌝ }
 {
-    let over = pos + data.len() as u32;
-    let new = e.size + beyond(over, e.size);
+    let past = pos + data.len() as u32;
+    let new = e.size + beyond(past, e.size);
     let m = least(new - s, b - off);
     let put = front(image, health, b, k, off, s, m, pos, data);
     match put {
-        Programmed::Stored => {}
-        Programmed::Refused => {
-            return Filled::Spoiled;
-        }
-    }
-    let at = beyond(over, s);
-    if m <= at {
-        return Filled::Done(s + m);
-    }
-    let old = look(b, n, &image[..], e, s + at);
-    match old {
-        Looked::Block(block) => {
-            device::program_copy(image, health, b, k, off + at, block, off + at, m - at);
-            Filled::Done(s + m)
-        }
-        Looked::Lost => Filled::Damaged,
+        Programmed::Stored => tail(image, health, b, n, e, k, off, s, m, past),
+        Programmed::Refused => Filled::Spoiled,
     }
 }
