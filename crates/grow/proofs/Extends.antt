@@ -19,8 +19,8 @@ use Rattle.alloc.proofs.Turning.{allocating, answers-block}
 use Rattle.grow.specs.declared.Growth.{Growth}
 use Rattle.grow.specs.declared.Growth.the-variants.{Full, Damaged}
 use Rattle.grow.specs.declared.Grew.{Grew}
-use Rattle.grow.specs.declared.Linked.{Linked}
-use Rattle.grow.specs.declared.Linked.the-variants.{Done, Spoiled}
+use Rattle.grow.specs.declared.block.Linked.{Linked}
+use Rattle.grow.specs.declared.block.Linked.the-variants.{Done, Spoiled}
 use Rattle.grow.specs.Supply.{Block}
 use Rattle.grow.specs.Grow.{GrowOut, grow-out, growOf}
 use Rattle.grow.specs.Attempt.{tryOf, LinkGives, Linking}

@@ -20,7 +20,7 @@ use Rattle.device.specs.Device.{stored, programOf, ProgramGives}
 use Rattle.device.proofs.Steps.{told-stored, told-refused}
 use Rattle.files.specs.Table.{sizeMax}
 use Rattle.grow.specs.declared.Growth.the-variants.{Grown, Damaged}
-use Rattle.grow.specs.declared.Linked.the-variants.{Done, Spoiled}
+use Rattle.grow.specs.declared.block.Linked.the-variants.{Done, Spoiled}
 use Rattle.grow.specs.Grow.{grow-out, part, pointersOf, linkOf, spoils}
 use Rattle.grow.specs.Attempt.{putOf, attemptOf}
 use Rattle.grow.proofs.Spoils.{spoils-stored, spoils-empty, spoils-damaged, spoils-refused, spoils-some}

@@ -14,7 +14,7 @@ use Rattle.device.specs.declared.Programmed.the-variants.{Stored, Refused}
 use Rattle.device.specs.Device.{stored, programOf, ProgramGives}
 use Rattle.device.proofs.Steps.{told-stored, told-refused}
 use Rattle.grow.specs.declared.Growth.the-variants.{Grown, Damaged}
-use Rattle.grow.specs.declared.Linked.the-variants.{Done, Spoiled}
+use Rattle.grow.specs.declared.block.Linked.the-variants.{Done, Spoiled}
 use Rattle.grow.specs.Grow.{grow-out, pointersOf}
 use Rattle.grow.specs.Attempt.{putOf}
 use Rattle.grow.proofs.Spoils.{spoils-stored, spoils-empty, spoils-damaged, spoils-refused}

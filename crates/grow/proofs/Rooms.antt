@@ -9,7 +9,7 @@ use Rattle.card.specs.Blocks.{PointerAsked}
 use Rattle.card.proofs.Cards.{block-inside}
 use Rattle.device.specs.Bounds.{Block, Room, Source}
 use Rattle.device.proofs.Bounds.{same-offset}
-use Rattle.grow.specs.declared.Linked.{Linked}
+use Rattle.grow.specs.declared.block.Linked.{Linked}
 use Rattle.grow.specs.Attempt.{LinkOut, LinkGives, Linking}
 
 -- an erase of block k

@@ -12,8 +12,8 @@ use Rattle.device.specs.Device.{wiped, refusesErase, eraseOf, EraseGives}
 use Rattle.device.proofs.Steps.{told-wiped, told-kept}
 use Rattle.window.proofs.Cases.{no-both}
 use Rattle.grow.specs.declared.Growth.{Growth}
-use Rattle.grow.specs.declared.Linked.{Linked}
-use Rattle.grow.specs.declared.Linked.the-variants.{Done, Spoiled}
+use Rattle.grow.specs.declared.block.Linked.{Linked}
+use Rattle.grow.specs.declared.block.Linked.the-variants.{Done, Spoiled}
 use Rattle.grow.specs.Supply.{Took, Block}
 use Rattle.grow.specs.Grow.{grow-out, linkOf, spoils, growOf}
 use Rattle.grow.specs.Attempt.{LinkOut, LinkGives, attemptOf, tryOf}

@@ -6,8 +6,8 @@ use Prim.Native.Nat.{ℕ, _≤_, _<_}
 use lib.ListN.{length}
 use Rattle.card.specs.Card.{Card}
 use Rattle.device.specs.Device.{wiped, refusesErase}
-use Rattle.grow.specs.declared.Linked.{Linked}
-use Rattle.grow.specs.declared.Linked.the-variants.{Done, Spoiled}
+use Rattle.grow.specs.declared.block.Linked.{Linked}
+use Rattle.grow.specs.declared.block.Linked.the-variants.{Done, Spoiled}
 use Rattle.grow.specs.Grow.{GrowOut, pointersOf, linkOf, spoils}
 
 -- what a try leaves

@@ -53,7 +53,7 @@ fn write_on(
     let mut h = head;
     let mut s = size;
     while s < new {
-        let grew = grow::extend_in(b, n, l, image, health, t, window, h, s);
+        let grew = grow::attempts::extend_in(b, n, l, image, health, t, window, h, s);
         window = grew.window;
         let answer = grew.answer;
         match answer {

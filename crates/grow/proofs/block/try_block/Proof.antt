@@ -1,9 +1,9 @@
--- `grow::try_block` meets its contract: a refused erase ends the try, else the link's answer is its own. Assumes nothing.
+-- `grow::block::try_block` meets its contract: a refused erase ends the try, else the link's answer is its own. Assumes nothing.
 use Rattle.grow.proofs.Rooms.{block-of, gives}
 use Rattle.grow.proofs.Tries.{try-kept, try-wiped}
 use borrow.Author.Needs.{needs}
-use Rattle.grow.proofs.try_block.Statement.{statement}
-use Rattle.grow.proofs.try_block.Tie as tie
+use Rattle.grow.proofs.block.try_block.Statement.{statement}
+use Rattle.grow.proofs.block.try_block.Tie as tie
 
 erase-requires : tie.Need-erase-requires
 erase-requires c κs =

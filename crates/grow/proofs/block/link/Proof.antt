@@ -1,12 +1,12 @@
--- `grow::link` meets its contract: each way through it is a case of the definition. Assumes nothing.
+-- `grow::block::link` meets its contract: each way through it is a case of the definition. Assumes nothing.
 use mathlib.Core.Path.{refl}
 use Prim.Native.Nat.{_+_, _-_}
 use native.Mathlib.Omega.{arith}
 use Rattle.grow.proofs.Rooms.{room-of, source-of, gives}
 use Rattle.grow.proofs.Links.{attempt-empty, attempt-damaged, attempt-spoiled, attempt-copied, attempt-pointers, used-fits, index-fits, next-fits}
 use borrow.Author.Needs.{needs}
-use Rattle.grow.proofs.link.Statement.{statement}
-use Rattle.grow.proofs.link.Tie as tie
+use Rattle.grow.proofs.block.link.Statement.{statement}
+use Rattle.grow.proofs.block.link.Tie as tie
 
 returns : tie.Need-returns
 returns c =

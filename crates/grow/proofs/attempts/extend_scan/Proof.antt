@@ -1,8 +1,8 @@
--- `grow::extend_scan` meets its contract: what is left to do equals the whole growth (`Rest`), and each try lowers the checkpoint count. Assumes nothing.
+-- `grow::attempts::extend_scan` meets its contract: what is left to do equals the whole growth (`Rest`), and each try lowers the checkpoint count. Assumes nothing.
 use borrow.Author.Needs.{needs}
 use Rattle.grow.proofs.Extends.{Rest, rest-start, rest-ready, block-linking, falls, moves-on, ends-done, ends-full, ends-damaged, ends-refused}
-use Rattle.grow.proofs.extend_scan.Statement.{statement}
-use Rattle.grow.proofs.extend_scan.Tie as tie
+use Rattle.grow.proofs.attempts.extend_scan.Statement.{statement}
+use Rattle.grow.proofs.attempts.extend_scan.Tie as tie
 
 abbrev Inv-loop : tie.InvT-loop
 Inv-loop b n l image₀ health t head size window₀ image window = Rest b n l health t window₀ head size image₀ window image

@@ -1,4 +1,4 @@
--- `grow::put_pointers` meets its contract: the pointers from the first on are those that are left from `x` on. Assumes nothing.
+-- `grow::block::put_pointers` meets its contract: the pointers from the first on are those that are left from `x` on. Assumes nothing.
 use mathlib.Core.Path.{_≡_, refl, _∙_}
 use Prim.Native.Nat.{_*_, _-_, _≤_}
 use native.Mathlib.Omega.{arith}
@@ -7,8 +7,8 @@ use lib.ListN.{length}
 use Rattle.grow.specs.Attempt.{putOf}
 use Rattle.grow.proofs.Rooms.{room-of, asked-of, gives}
 use Rattle.grow.proofs.Pointers.{put-start, put-done, put-damaged, put-spoiled, put-turn}
-use Rattle.grow.proofs.put_pointers.Statement.{statement}
-use Rattle.grow.proofs.put_pointers.Tie as tie
+use Rattle.grow.proofs.block.put_pointers.Statement.{statement}
+use Rattle.grow.proofs.block.put_pointers.Tie as tie
 
 abbrev Inv-loop : tie.InvT-loop
 Inv-loop image₀ health b n k count head cur₀ x₀ image cur x = (x ≤ count) × (length image ≡ length image₀)

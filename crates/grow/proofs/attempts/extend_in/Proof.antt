@@ -1,12 +1,12 @@
--- `grow::extend_in` meets its contract: a block that the window holds is what an allocation answers, and a good one ends the growth; else the growth is the
--- other function's. Assumes nothing.
+-- `grow::attempts::extend_in` meets its contract: a block that the window holds is what an allocation answers, and a good one ends the growth; else the
+-- growth is the other function's. Assumes nothing.
 use mathlib.Core.Path.{refl}
 use native.Mathlib.Omega.{arith}
 use borrow.Author.Needs.{needs}
 use Rattle.grow.proofs.Extends.{rest-start, held, block-linking, ends-done}
 use Rattle.grow.proofs.Tries.{good-takes}
-use Rattle.grow.proofs.extend_in.Statement.{statement}
-use Rattle.grow.proofs.extend_in.Tie as tie
+use Rattle.grow.proofs.attempts.extend_in.Statement.{statement}
+use Rattle.grow.proofs.attempts.extend_in.Tie as tie
 
 take-requires : tie.Need-take-requires
 take-requires c κs = search needs
