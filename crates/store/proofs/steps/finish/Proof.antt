@@ -1,8 +1,8 @@
--- `store::finish` meets its contract, case by case. Assumes nothing.
+-- `store::steps::finish` meets its contract, case by case. Assumes nothing.
 use Rattle.store.proofs.Calls.{finish-written, finish-full, finish-lost}
 use borrow.Author.Needs.{needs}
-use Rattle.store.proofs.finish.Statement.{statement}
-use Rattle.store.proofs.finish.Tie as tie
+use Rattle.store.proofs.steps.finish.Statement.{statement}
+use Rattle.store.proofs.steps.finish.Tie as tie
 
 enum-known-answer : tie.Need-enum-known-answer
 enum-known-answer c = search needs

@@ -1,8 +1,8 @@
--- `store::shrink` meets its contract: by the lookup of the last byte that is kept. Assumes nothing.
+-- `store::steps::shrink` meets its contract: by the lookup of the last byte that is kept. Assumes nothing.
 use Rattle.store.proofs.Calls.{shrinks-empty, shrinks-found, shrinks-damaged, shrinks-refused}
 use borrow.Author.Needs.{needs}
-use Rattle.store.proofs.shrink.Statement.{statement}
-use Rattle.store.proofs.shrink.Tie as tie
+use Rattle.store.proofs.steps.shrink.Statement.{statement}
+use Rattle.store.proofs.steps.shrink.Tie as tie
 
 put-requires : tie.Need-put-requires
 put-requires c κs = search needs

@@ -1,0 +1,95 @@
+// What write and truncate do around the growths: the tests first, the table last, and a file cut down.
+use super::Outcome;
+use super::Stored;
+use super::growths::Writing;
+use super::growths::Wrote;
+use files::Table;
+use layout::Geometry;
+use window::Lookahead;
+ghost use mathlib.Core.Path.{_≡_};
+ghost use Prim.Native.Nat.{_<_};
+ghost use lib.ListN.{length};
+ghost use Rattle.files.specs.Table.{filesMax};
+ghost use Rattle.store.specs.Store.{shrinks};
+ghost use Rattle.store.specs.Put.{finishOf};
+ghost use Rattle.store.specs.Calls.{testedOf, Shrinking};
+
+// Whether geometry, slices, health bytes, L and window are not refused.
+pub fn valid_store(g: Geometry, l: u32, len: usize, health: &[u8], w: Lookahead) -> bool
+    ensures { λ r. ⌜ r ≡ testedOf (g .«block_size») (g .«block_count») l len (now (health .entry)) w ⌝ }
+{
+    let n = g.block_count;
+    if !card::good_card(g, len) {
+        return false;
+    }
+    if !device::good_health(health, n) {
+        return false;
+    }
+    if !window::valid_lookahead(l) {
+        return false;
+    }
+    window::valid_window(w, n, l)
+}
+
+// The table changes last, and only for a write that came to its end.
+pub fn finish(t: Table, i: u32, wrote: Wrote) -> Stored
+    requires { ⌜ i < filesMax ⌝ }
+    ensures { λ r. ⌜ r ≡ finishOf t i (wrote .answer) (wrote .window) ⌝ }
+{
+    let answer = wrote.answer;
+    let w = wrote.window;
+    match answer {
+        Writing::Written { head, size } => Stored {
+            answer: Outcome::Done,
+            window: w,
+            table: files::put(t, i, size, head),
+        },
+        Writing::NoRoom => Stored {
+            answer: Outcome::Full,
+            window: w,
+            table: t,
+        },
+        Writing::Corrupt => Stored {
+            answer: Outcome::Damaged,
+            window: w,
+            table: t,
+        },
+    }
+}
+
+// The file at place `i` cut down to `size` bytes: its head is then the block of its last byte.
+pub fn shrink(b: u32, n: u32, image: &[u8], w: Lookahead, t: Table, i: u32, size: u32) -> Stored
+    requires { ⌜ Shrinking b n (length (now image)) t i size ⌝ }
+    ensures { λ r. ⌜ r ≡ shrinks b n (now (image .entry)) w t i size .stored ⌝ }
+{
+    if size == 0 {
+        return Stored {
+            answer: Outcome::Done,
+            window: w,
+            table: files::put(t, i, 0, Geometry::NULL),
+        };
+    }
+    let e = t.files[i as usize];
+    let found = ctz::find_in(b, n, image, e.head, e.size, size - 1);
+    match found {
+        ctz::Found::At {
+            block,
+            offset,
+            hops,
+        } => Stored {
+            answer: Outcome::Done,
+            window: w,
+            table: files::put(t, i, size, block),
+        },
+        ctz::Found::Damaged => Stored {
+            answer: Outcome::Damaged,
+            window: w,
+            table: t,
+        },
+        ctz::Found::Refused => Stored {
+            answer: Outcome::Damaged,
+            window: w,
+            table: t,
+        },
+    }
+}
