@@ -27,6 +27,7 @@ use Rattle.store.specs.Write.{Writing, WriteOut, zeros}
 use Rattle.store.specs.Store.{StoreOut, written, writtenOf, puts, shrunk, storeTruncate}
 use Rattle.store.specs.Calls.{testedOf}
 use Rattle.store.proofs.Calls as calls
+use Rattle.store.proofs.Files as files
 use Rattle.window.specs.declared.Lookahead.{Lookahead}
 use Rattle.writes.specs.Lists.{blockAt}
 use Rattle.demands.specs.Calls.{State, truncate, storedIn}
@@ -96,7 +97,7 @@ module _ {B N l : ℕ} {s : State} (h : Held B N l s) (health : List ℕ) (numbe
     -- to 0
     to-none : 0 < e .size → size ≡ 0 → Resized true call
     to-none some z =
-        resized-by (calls.truncate-shrinks B N l img health w t number size te i q near (omega arith) ∙ calls.shrinks-none B N img w t i size z)
+        resized-by (calls.truncate-shrinks B N l img health w t number size te i q near (omega arith) ∙ files.shrinks-none B N img w t i size z)
         (ends-truncate h number i b pl 0 nullBlock w img (resized size) (λ x a. refl)
         (empty-bytes img B nullBlock ∙ ap (λ (n : ℕ). take n (old ++ zeros (size - length old))) (sym z))
         (empty-keeps B N l w img (held t) (before h) e i) true size code refl)
@@ -108,7 +109,7 @@ module _ {B N l : ℕ} {s : State} (h : Held B N l s) (health : List ℕ) (numbe
         let k = blockAt img B (e .head) (e .size) (indexAt B (size - 1)) in
         let sh = shrink-keeps B N l (held t) w img (before h) e i (placed-at pl) size k (offsetAt B (size - 1)) (hops (indexAt B (e .size - 1)) (indexAt B (size - 1)))
         some (omega arith) (lookup-sound good sl (size - 1) u) in
-        resized-by (calls.truncate-shrinks B N l img health w t number size te i q near less ∙ calls.shrinks-some B N img w t i size (λ z. omega arith)
+        resized-by (calls.truncate-shrinks B N l img health w t number size te i q near less ∙ files.shrinks-some B N img w t i size (λ z. omega arith)
         ∙ ap (shrunk t i size w img) (walk-sound good sl (size - 1) u))
         (ends-truncate h number i b pl size k w img (resized size) (λ x a. refl) (sh .plain ∙ resized-less size old (omega (arith, long)))
         (sh .again) true size code refl)

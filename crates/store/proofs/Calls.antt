@@ -1,58 +1,19 @@
 -- write and truncate by their cases, in the order of the tests. Assumes nothing.
-use mathlib.Core.Path.{_≡_, refl, ap, _∙_}
-use mathlib.Core.Bool.{Bool, true, false}
+use mathlib.Core.Path.{_≡_, _∙_}
+use mathlib.Core.Bool.{true, false}
 use mathlib.Core.List.{List, []}
 use Prim.Native.Nat.{ℕ, _+_, _-_, _≤_, _<_}
-use borrow.Author.Tests.{lt-ltb, le-ltb, eq-eqb, ne-eqb}
-use lib.Dec.{eqb}
 use lib.ListN.{length}
-use Rattle.ctz.specs.declared.Found.{Found}
-use Rattle.ctz.specs.declared.Found.the-variants as found
-use Rattle.ctz.specs.Lookup.{walkTo}
 use Rattle.files.specs.declared.Table.{Table}
 use Rattle.files.specs.declared.Found.the-variants as place
-use Rattle.files.specs.Table.{sizeMax, nullBlock, file}
+use Rattle.files.specs.Table.{sizeMax, file}
 use Rattle.files.specs.Find.{findOf}
-use Rattle.files.specs.Change.{putOf}
 use Rattle.window.specs.declared.Lookahead.{Lookahead}
-use Rattle.store.specs.declared.Outcome.{Outcome}
 use Rattle.store.specs.declared.Outcome.the-variants as outcome
-use Rattle.store.specs.declared.Stored.{Stored}
-use Rattle.store.specs.declared.growths.Writing as declared
-use Rattle.store.specs.declared.growths.Writing.the-variants as writing
-use Rattle.store.specs.declared.growths.Wrote.{Wrote}
-use Rattle.store.specs.Write.{zeros, Writing, Written, NoRoom, Corrupt, WriteOut}
-use Rattle.store.specs.Store.{StoreOut, left, written, writtenOf, puts, storeWrite, shrunk, shrinks, storeTruncate}
-use Rattle.store.specs.Put.{wroteOf, WroteGives, finishOf}
-use Rattle.store.specs.Calls.{testedOf, StoreGives}
-use Rattle.store.proofs.Puts.{puts-as-gap}
-
-pub gives : {o : StoreOut} (a : Outcome) (w : Lookahead) (t : Table) (image : List ℕ) → o ≡ left a w t image
-    → StoreGives o (record { answer = a; window = w; table = t }) image
-gives a w t image e = rw e (record { stored = refl; image = refl })
-
--- ---- the table changes last
-
-pub finish-written : (t : Table) (i h s : ℕ) {a : declared.Writing} {u : Table} (w : Lookahead) → a ≡ writing.Written h s → u ≡ putOf t i s h
-    → record { answer = outcome.Done; window = w; table = u } ≡ finishOf t i a w
-finish-written t i h s w e f = rw (e, f)
-
-pub finish-full : (t : Table) (i : ℕ) {a : declared.Writing} (w : Lookahead) → a ≡ writing.NoRoom
-    → record { answer = outcome.Full; window = w; table = t } ≡ finishOf t i a w
-finish-full t i w e = rw e
-
-pub finish-lost : (t : Table) (i : ℕ) {a : declared.Writing} (w : Lookahead) → a ≡ writing.Corrupt
-    → record { answer = outcome.Damaged; window = w; table = t } ≡ finishOf t i a w
-finish-lost t i w e = rw e
-
-pub finishes : (t : Table) (i : ℕ) {o : WriteOut Lookahead} {r : Wrote} {after : List ℕ} {s : Stored} → WroteGives o r after
-    → s ≡ finishOf t i (r .answer) (r .window) → StoreGives (writtenOf t i o) s after
-finishes t i {o} {r} {after} {s} g e = rw (e, g .answer, g .window, g .image) (go (o .answer))
-  where
-    go : (a : Writing) → StoreGives (written t i a (o .rest) (o .image)) (finishOf t i (wroteOf a) (o .rest)) (o .image)
-    go (Written h z) = record { stored = refl; image = refl }
-    go NoRoom = record { stored = refl; image = refl }
-    go Corrupt = record { stored = refl; image = refl }
+use Rattle.store.specs.Write.{zeros}
+use Rattle.store.specs.Store.{left, writtenOf, puts, writeFile, storeWrite, shrinks, truncateFile, storeTruncate}
+use Rattle.store.specs.Calls.{testedOf}
+use Rattle.store.proofs.Files as files
 
 -- ---- write
 
@@ -71,66 +32,26 @@ module _ (B N l : ℕ) (image health : List ℕ) (w : Lookahead) (t : Table) (nu
     write-missing f = rw (storeWrite, e, f)
 
     module _ (i : ℕ) (f : findOf t number ≡ place.At i) where
-      pub write-far : sizeMax < p → storeWrite B N l image health w t number p src ≡ left outcome.Refused w t image
+      pub write-found : storeWrite B N l image health w t number p src ≡ writeFile B N l image health w t i p src
       unfolding storeWrite testedOf
-      write-far h = rw (storeWrite, e, f, lt-ltb sizeMax p h)
+      write-found = rw (storeWrite, e, f)
+
+      pub write-far : sizeMax < p → storeWrite B N l image health w t number p src ≡ left outcome.Refused w t image
+      write-far h = write-found ∙ files.file-far B N l image health w t i p src h
 
       module _ (h : p ≤ sizeMax) where
         pub write-large : sizeMax < p + length src → storeWrite B N l image health w t number p src ≡ left outcome.TooLarge w t image
-        unfolding storeWrite testedOf
-        write-large m = rw (storeWrite, e, f, le-ltb sizeMax p h, lt-ltb sizeMax (p + length src) m)
+        write-large m = write-found ∙ files.file-large B N l image health w t i p src h m
 
         module _ (m : p + length src ≤ sizeMax) where
           pub write-none : length src ≡ 0 → storeWrite B N l image health w t number p src ≡ left outcome.Done w t image
-          unfolding storeWrite testedOf
-          write-none z = rw (storeWrite, e, f, le-ltb sizeMax p h, le-ltb sizeMax (p + length src) m, eq-eqb (length src) 0 z)
+          write-none z = write-found ∙ files.file-none B N l image health w t i p src h m z
 
           pub write-some : (length src ≡ 0 → ⊥)
               → storeWrite B N l image health w t number p src ≡ writtenOf t i (puts B N l health t (file t i) p src w image)
-          unfolding storeWrite testedOf
-          write-some z = rw (storeWrite, e, f, le-ltb sizeMax p h, le-ltb sizeMax (p + length src) m, ne-eqb (length src) 0 z)
+          write-some z = write-found ∙ files.file-some B N l image health w t i p src h m z
 
 -- ---- truncate
-
-module _ (B N : ℕ) (image : List ℕ) (w : Lookahead) (t : Table) (i size : ℕ) where
-  -- to 0
-  pub shrinks-none : size ≡ 0 → shrinks B N image w t i size ≡ left outcome.Done w (putOf t i 0 nullBlock) image
-  unfolding shrinks
-  shrinks-none z = rw (shrinks, eq-eqb size 0 z)
-
-  pub shrinks-some : (size ≡ 0 → ⊥)
-      → shrinks B N image w t i size ≡ shrunk t i size w image (walkTo image B N (file t i .head) (file t i .size) (size - 1))
-  unfolding shrinks
-  shrinks-some z = rw (shrinks, ne-eqb size 0 z)
-
-  pub shrinks-empty : {u : Table} → size ≡ 0 → u ≡ putOf t i 0 nullBlock
-      → record { answer = outcome.Done; window = w; table = u } ≡ shrinks B N image w t i size .stored
-  shrinks-empty z f = rw (shrinks-none z, f)
-
-  module _ (z : size ≡ 0 → ⊥) {x : Found} (g : x ≡ walkTo image B N (file t i .head) (file t i .size) (size - 1)) where
-    pub shrinks-found : (k off hops : ℕ) {u : Table} → x ≡ found.At k off hops → u ≡ putOf t i size k
-        → record { answer = outcome.Done; window = w; table = u } ≡ shrinks B N image w t i size .stored
-    shrinks-found k off hops e f = rw (shrinks-some z, ← g, e, f)
-
-    pub shrinks-damaged : x ≡ found.Damaged → record { answer = outcome.Damaged; window = w; table = t } ≡ shrinks B N image w t i size .stored
-    shrinks-damaged e = rw (shrinks-some z, ← g, e)
-
-    pub shrinks-refused : x ≡ found.Refused → record { answer = outcome.Damaged; window = w; table = t } ≡ shrinks B N image w t i size .stored
-    shrinks-refused e = rw (shrinks-some z, ← g, e)
-
-  -- card and window stay as they were
-  pub shrinks-keeps : (shrinks B N image w t i size .image ≡ image) × (shrinks B N image w t i size .stored .window ≡ w)
-  unfolding shrinks
-  shrinks-keeps = go (eqb size 0) (walkTo image B N (file t i .head) (file t i .size) (size - 1))
-    where
-      pick : Bool → Found → StoreOut
-      pick b x = elim b [ true ↦ left outcome.Done w (putOf t i 0 nullBlock) image | false ↦ shrunk t i size w image x ]
-
-      go : (b : Bool) (x : Found) → (pick b x .image ≡ image) × (pick b x .stored .window ≡ w)
-      go true x = (refl, refl)
-      go false (found.At k off hops) = (refl, refl)
-      go false found.Damaged = (refl, refl)
-      go false found.Refused = (refl, refl)
 
 module _ (B N l : ℕ) (image health : List ℕ) (w : Lookahead) (t : Table) (number size : ℕ) where
   pub truncate-untested : testedOf B N l (length image) health w ≡ false → storeTruncate B N l image health w t number size ≡ left outcome.Refused w t image
@@ -147,28 +68,26 @@ module _ (B N l : ℕ) (image health : List ℕ) (w : Lookahead) (t : Table) (nu
     truncate-missing f = rw (storeTruncate, e, f)
 
     module _ (i : ℕ) (f : findOf t number ≡ place.At i) where
-      pub truncate-far : sizeMax < size → storeTruncate B N l image health w t number size ≡ left outcome.Refused w t image
+      pub truncate-found : storeTruncate B N l image health w t number size ≡ truncateFile B N l image health w t i size
       unfolding storeTruncate testedOf
-      truncate-far h = rw (storeTruncate, e, f, lt-ltb sizeMax size h)
+      truncate-found = rw (storeTruncate, e, f)
+
+      pub truncate-far : sizeMax < size → storeTruncate B N l image health w t number size ≡ left outcome.Refused w t image
+      truncate-far h = truncate-found ∙ files.cut-far B N l image health w t i size h
 
       module _ (h : size ≤ sizeMax) where
         pub truncate-shrinks : size < file t i .size → storeTruncate B N l image health w t number size ≡ shrinks B N image w t i size
-        unfolding storeTruncate testedOf
-        truncate-shrinks m = rw (storeTruncate, e, f, le-ltb sizeMax size h, lt-ltb size (file t i .size) m)
+        truncate-shrinks m = truncate-found ∙ files.cut-shrinks B N l image health w t i size h m
 
         module _ (m : file t i .size ≤ size) where
           pub truncate-same : size ≡ file t i .size → storeTruncate B N l image health w t number size ≡ left outcome.Done w t image
-          unfolding storeTruncate testedOf
-          truncate-same z = rw (storeTruncate, e, f, le-ltb sizeMax size h, le-ltb size (file t i .size) m, eq-eqb size (file t i .size) z)
+          truncate-same z = truncate-found ∙ files.cut-same B N l image health w t i size h m z
 
           pub truncate-more : (size ≡ file t i .size → ⊥)
               → storeTruncate B N l image health w t number size
               ≡ writtenOf t i (puts B N l health t (file t i) (file t i .size) (zeros (size - file t i .size)) w image)
-          unfolding storeTruncate testedOf
-          truncate-more z =
-              rw (storeTruncate, e, f, le-ltb sizeMax size h, le-ltb size (file t i .size) m, ne-eqb size (file t i .size) z)
+          truncate-more z = truncate-found ∙ files.cut-more B N l image health w t i size h m z
 
-          -- its zeros are a gap
           pub truncate-grows : (size ≡ file t i .size → ⊥)
               → storeTruncate B N l image health w t number size ≡ writtenOf t i (puts B N l health t (file t i) size [] w image)
-          truncate-grows z = truncate-more z ∙ ap (writtenOf t i) (puts-as-gap B N l health t (file t i) size w image m)
+          truncate-grows z = truncate-found ∙ files.cut-grows B N l image health w t i size h m z

@@ -1,6 +1,7 @@
 -- The laws of the store.
 pub mod Index
 pub mod Looks
+pub mod Heads
 pub mod Fills
 pub mod Tails
 pub mod Turns
@@ -8,6 +9,7 @@ pub mod Goes
 pub mod Gaps
 pub mod Puts
 pub mod Tested
+pub mod Files
 pub mod Calls
 pub mod Refusals
 pub mod Examples

@@ -27,7 +27,7 @@ use Rattle.grow.specs.Extend.{windowAlloc}
 use Rattle.grow.specs.Grow.{part, pointersOf, linkOf, spoils, growOf}
 use Rattle.store.specs.declared.Outcome.the-variants as outcome
 use Rattle.store.specs.Write.{fronted, filledOf, grownOf, writeOf, starts, wanted, looked, firstHead, putOf}
-use Rattle.store.specs.Store.{StoreOut, left, puts, storeWrite}
+use Rattle.store.specs.Store.{StoreOut, left, puts, storeWrite, writeFile}
 
 -- The file is 372 bytes of 7 in blocks 0, 1 and 2, all three full. Pointer 1 of block 2 should name block 0 and names p. Blocks 3, 4 and 5 are given.
 abbrev card : ℕ → List ℕ → List ℕ → List ℕ → List ℕ
@@ -79,5 +79,5 @@ refused : (writes 0 good (window 7 0 3 6 3) 372 125
     × (writes 77 good (window 7 0 3 6 3) 0 1 ≡ left outcome.Damaged (window 7 0 3 6 6) (files 372 2) (card 77 spare spare spare))
     × (writes 0 (0 ∷ 0 ∷ 0 ∷ 0 ∷ 1 ∷ 2 ∷ []) (window 7 0 3 6 3) 372 125
     ≡ left outcome.Full (window 7 0 3 3 0) (files 372 2) (card 0 filled spare (replicate 128 255)))
-unfolding writes storeWrite puts putOf wanted starts looked firstHead writeOf grownOf filledOf fronted growOf spoils linkOf pointersOf part wiped stored windowAlloc allocOf allocBy takeOf freeFrom skip scanOf cleared markAll markMap seenIn seenAll visitOf visit goodCard healthOk eachValid lookaheadFits validOf findOf searchOf tableOk filesOk entryOk headOk walkTo walk pointer wordAt bytes32 pointers capacity start indexAt offsetAt trailingZeros leadingZeros
+unfolding writes storeWrite writeFile puts putOf wanted starts looked firstHead writeOf grownOf filledOf fronted growOf spoils linkOf pointersOf part wiped stored windowAlloc allocOf allocBy takeOf freeFrom skip scanOf cleared markAll markMap seenIn seenAll visitOf visit goodCard healthOk eachValid lookaheadFits validOf findOf searchOf tableOk filesOk entryOk headOk walkTo walk pointer wordAt bytes32 pointers capacity start indexAt offsetAt trailingZeros leadingZeros
 refused = (refl, refl, refl, refl, refl, refl)

@@ -17,7 +17,7 @@ use Rattle.files.specs.Table.{headOk, entryOk, filesOk, tableOf, tableOk, nullB
 use Rattle.window.specs.declared.Lookahead.{Lookahead}
 use Rattle.window.specs.Value.{lookaheadFits, validOf}
 use Rattle.store.specs.declared.Outcome.the-variants as outcome
-use Rattle.store.specs.Store.{StoreOut, left, shrinks, storeTruncate}
+use Rattle.store.specs.Store.{StoreOut, left, shrinks, storeTruncate, truncateFile}
 
 -- The file is 260 bytes in blocks 2, 0 and 1: 128 of 7; 124 of 8 behind a pointer; 8 of 9 behind two. The first of those should name block 0 and names p.
 abbrev card : ℕ → List ℕ
@@ -46,10 +46,10 @@ shrank : (truncates 0 260 ≡ keeps 260 1) × (truncates 0 259 ≡ keeps 259 1) 
     × (truncates 0 252 ≡ keeps 252 0) × (truncates 0 251 ≡ keeps 251 0) × (truncates 0 129 ≡ keeps 129 0)
     × (truncates 0 128 ≡ keeps 128 2) × (truncates 0 127 ≡ keeps 127 2) × (truncates 0 1 ≡ keeps 1 2)
     × (truncates 0 0 ≡ keeps 0 nullBlock)
-unfolding truncates storeTruncate shrinks goodCard healthOk eachValid lookaheadFits validOf findOf searchOf tableOk filesOk entryOk headOk walkTo walk pointer wordAt pointers capacity start indexAt offsetAt trailingZeros leadingZeros
+unfolding truncates storeTruncate truncateFile shrinks goodCard healthOk eachValid lookaheadFits validOf findOf searchOf tableOk filesOk entryOk headOk walkTo walk pointer wordAt pointers capacity start indexAt offsetAt trailingZeros leadingZeros
 shrank = (refl, refl, refl, refl, refl, refl, refl, refl, refl, refl)
 
 -- Where the pointer names no block of the card: -84 if it would become the head, and all is as it came.
 lost : truncates 77 252 ≡ left outcome.Damaged window (files 260 1) (card 77)
-unfolding truncates storeTruncate shrinks goodCard healthOk eachValid lookaheadFits validOf findOf searchOf tableOk filesOk entryOk headOk walkTo walk pointer wordAt pointers capacity start indexAt offsetAt trailingZeros leadingZeros
+unfolding truncates storeTruncate truncateFile shrinks goodCard healthOk eachValid lookaheadFits validOf findOf searchOf tableOk filesOk entryOk headOk walkTo walk pointer wordAt pointers capacity start indexAt offsetAt trailingZeros leadingZeros
 lost = refl

@@ -7,7 +7,6 @@ use native.Mathlib.Nat.{le-of-eq}
 use native.Mathlib.Omega.{arith}
 use lib.ListN.{length}
 use Rattle.card.specs.Card.{goodCard}
-use Rattle.card.proofs.Cards.{card}
 use Rattle.device.specs.Health.{healthOk}
 use Rattle.device.proofs.Health.{healthy}
 use Rattle.files.specs.declared.Table.{Table}
@@ -20,7 +19,7 @@ use Rattle.window.specs.declared.Lookahead.{Lookahead}
 use Rattle.window.specs.Value.{lookaheadFits, validOf}
 use Rattle.alloc.proofs.Tested.{ready}
 use Rattle.store.specs.Put.{Putting}
-use Rattle.store.specs.Calls.{testedOf, Shrinking}
+use Rattle.store.specs.Calls.{testedOf, Shrinking, Asked}
 
 module _ (B N l len : ℕ) (health : List ℕ) (w : Lookahead) where
   pub no-card : goodCard B N len ≡ false → false ≡ testedOf B N l len health w
@@ -64,15 +63,20 @@ module _ (B N l : ℕ) (image health : List ℕ) (w : Lookahead) (t : Table) (nu
   pub file-most : file t i .size ≤ sizeMax
   file-most = table-valid t (found-at t number i f .ok) .size-le i (found-at t number i f .below)
 
-  pub putting : (pos : ℕ) (src : List ℕ) → pos + length src ≤ sizeMax → Putting B N l image health t w (file t i) pos src
-  putting pos src h =
+  -- what a call asks of the file at place i
+  pub asked : Asked B N l image health w t i
+  asked =
       let a = tests B N l image health w e in
       record {
         ready = ready B N l (length image) t w (a .card) (a .lookahead) (a .window) (found-at t number i f .ok);
         known = le-of-eq (sym (healthy health N (a .healths) .count));
+        slot = slot;
         most = file-most;
-        fits = h;
       }
 
+module _ {B N l : ℕ} {image health : List ℕ} {w : Lookahead} {t : Table} {i : ℕ} (a : Asked B N l image health w t i) where
+  pub putting : (pos : ℕ) (src : List ℕ) → pos + length src ≤ sizeMax → Putting B N l image health t w (file t i) pos src
+  putting pos src h = record { ready = a .ready; known = a .known; most = a .most; fits = h }
+
   pub shrinking : (size : ℕ) → size < file t i .size → Shrinking B N (length image) t i size
-  shrinking size h = record { card = card B N (length image) (tests B N l image health w e .card); slot = slot; most = file-most; below = h }
+  shrinking size h = record { card = a .ready .card; slot = a .slot; most = a .most; below = h }

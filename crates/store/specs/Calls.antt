@@ -3,12 +3,14 @@ use mathlib.Core.Path.{_≡_}
 use mathlib.Core.Bool.{Bool, _&&_}
 use mathlib.Core.List.{List}
 use Prim.Native.Nat.{ℕ, _≤_, _<_}
+use lib.ListN.{length}
 use Rattle.card.specs.Card.{goodCard, Card}
 use Rattle.device.specs.Health.{healthOk}
 use Rattle.files.specs.declared.Table.{Table}
 use Rattle.files.specs.Table.{filesMax, sizeMax, file}
 use Rattle.window.specs.declared.Lookahead.{Lookahead}
 use Rattle.window.specs.Value.{lookaheadFits, validOf}
+use Rattle.alloc.specs.Allocate.{Ready}
 use Rattle.store.specs.declared.Stored.{Stored}
 use Rattle.store.specs.Store.{StoreOut}
 
@@ -27,3 +29,10 @@ pub record Shrinking (B N len : ℕ) (t : Table) (i size : ℕ) : Type 0 where
   pub slot : i < filesMax
   pub most : file t i .size ≤ sizeMax
   pub below : size < file t i .size
+
+-- what a call asks of the file at place i: what the tests before it tell
+pub record Asked (B N l : ℕ) (image health : List ℕ) (w : Lookahead) (t : Table) (i : ℕ) : Type 0 where
+  pub ready : Ready B N l (length image) t w
+  pub known : N ≤ length health
+  pub slot : i < filesMax
+  pub most : file t i .size ≤ sizeMax

@@ -46,8 +46,11 @@ pub record StoreOut : Type 0 where
   pub stored : Stored
   pub image : List ℕ
 
+abbrev pub stays : Outcome → Lookahead → Table → Stored
+stays a w t = record { answer = a; window = w; table = t }
+
 abbrev pub left : Outcome → Lookahead → Table → List ℕ → StoreOut
-left a w t image = record { stored = record { answer = a; window = w; table = t }; image = image }
+left a w t image = record { stored = stays a w t; image = image }
 
 -- The table changes last: only an accepted write changes it. -28 and -84 leave window and image as the steps left them.
 abbrev pub written : Table → ℕ → Writing → Lookahead → List ℕ → StoreOut
@@ -62,8 +65,22 @@ writtenOf t i o = written t i (o .answer) (o .rest) (o .image)
 abbrev pub storeTested : ℕ → ℕ → ℕ → List ℕ → List ℕ → Lookahead → Bool
 storeTested B N l image health w = goodCard B N (length image) && healthOk health N && lookaheadFits l && validOf w N l
 
--- Order: geometry and slices, window and table, file number, position (-22), then position and length (-27), then the card.
+-- A write to the file at place i: position (-22), then position and length (-27), then the card.
 -- A write of no bytes changes nothing, the window included, also past the end.
+unfoldable pub writeFile : ℕ → ℕ → ℕ → List ℕ → List ℕ → Lookahead → Table → ℕ → ℕ → List ℕ → StoreOut
+writeFile B N l image health w t i p src =
+    elim (ltb sizeMax p) [
+      | true ↦ left outcome.Refused w t image
+      | false ↦ elim (ltb sizeMax (p + length src)) [
+        | true ↦ left outcome.TooLarge w t image
+        | false ↦ elim (eqb (length src) 0) [
+          | true ↦ left outcome.Done w t image
+          | false ↦ writtenOf t i (puts B N l health t (file t i) p src w image)
+        ]
+      ]
+    ]
+
+-- Order: geometry and slices, window and table, file number (-22), no such file (-2), then the file.
 unfoldable pub storeWrite : ℕ → ℕ → ℕ → List ℕ → List ℕ → Lookahead → Table → ℕ → ℕ → List ℕ → StoreOut
 storeWrite B N l image health w t number p src =
     elim (storeTested B N l image health w) [
@@ -71,16 +88,7 @@ storeWrite B N l image health w t number p src =
       | true ↦ elim (findOf t number) [
         | place.Refused ↦ left outcome.Refused w t image
         | place.Missing ↦ left outcome.Missing w t image
-        | place.At i ↦ elim (ltb sizeMax p) [
-          | true ↦ left outcome.Refused w t image
-          | false ↦ elim (ltb sizeMax (p + length src)) [
-            | true ↦ left outcome.TooLarge w t image
-            | false ↦ elim (eqb (length src) 0) [
-              | true ↦ left outcome.Done w t image
-              | false ↦ writtenOf t i (puts B N l health t (file t i) p src w image)
-            ]
-          ]
-        ]
+        | place.At i ↦ writeFile B N l image health w t i p src
       ]
     ]
 
@@ -98,6 +106,21 @@ shrinks B N image w t i size =
     ]
 
 -- Growing is a write of zeros at the old size; equal changes nothing. A size above the largest is -22.
+unfoldable pub truncateFile : ℕ → ℕ → ℕ → List ℕ → List ℕ → Lookahead → Table → ℕ → ℕ → StoreOut
+truncateFile B N l image health w t i size =
+    elim (ltb sizeMax size) [
+      | true ↦ left outcome.Refused w t image
+      | false ↦ elim (ltb size (file t i .size)) [
+        | true ↦ shrinks B N image w t i size
+        | false ↦ elim (eqb size (file t i .size)) [
+          | true ↦ left outcome.Done w t image
+          | false ↦
+              writtenOf t i (puts B N l health t (file t i) (file t i .size) (zeros (size - file t i .size)) w image)
+        ]
+      ]
+    ]
+
+-- the order of the tests is that of write
 unfoldable pub storeTruncate : ℕ → ℕ → ℕ → List ℕ → List ℕ → Lookahead → Table → ℕ → ℕ → StoreOut
 storeTruncate B N l image health w t number size =
     elim (storeTested B N l image health w) [
@@ -105,17 +128,7 @@ storeTruncate B N l image health w t number size =
       | true ↦ elim (findOf t number) [
         | place.Refused ↦ left outcome.Refused w t image
         | place.Missing ↦ left outcome.Missing w t image
-        | place.At i ↦ elim (ltb sizeMax size) [
-          | true ↦ left outcome.Refused w t image
-          | false ↦ elim (ltb size (file t i .size)) [
-            | true ↦ shrinks B N image w t i size
-            | false ↦ elim (eqb size (file t i .size)) [
-              | true ↦ left outcome.Done w t image
-              | false ↦
-                  writtenOf t i (puts B N l health t (file t i) (file t i .size) (zeros (size - file t i .size)) w image)
-            ]
-          ]
-        ]
+        | place.At i ↦ truncateFile B N l image health w t i size
       ]
     ]
 

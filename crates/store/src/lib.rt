@@ -1,14 +1,16 @@
 // The store: write and truncate.
 mod block;
+mod file;
 mod growths;
 mod numbers;
 mod old;
 mod steps;
 
+use file::truncate_file;
+use file::write_file;
 use files::Table;
 use layout::Geometry;
-use steps::finish;
-use steps::shrink;
+use steps::left;
 use steps::valid_store;
 use window::Lookahead;
 ghost use Rattle.store.specs.Store.{storeWrite, storeTruncate};
@@ -53,61 +55,24 @@ pub fn write(
         r (now (image .exit)) ⌝ }
 {
     if !valid_store(g, l, image.len(), health, w) {
-        return Stored {
-            answer: Outcome::Refused,
-            window: w,
-            table: t,
-        };
+        return left(Outcome::Refused, w, t);
     }
     let place = files::find(t, number);
     match place {
-        files::Found::At(i) => {
-            if Geometry::FILE_MAX < pos {
-                return Stored {
-                    answer: Outcome::Refused,
-                    window: w,
-                    table: t,
-                };
-            }
-            if ((Geometry::FILE_MAX - pos) as usize) < data.len() {
-                return Stored {
-                    answer: Outcome::TooLarge,
-                    window: w,
-                    table: t,
-                };
-            }
-            if data.len() == 0 {
-                return Stored {
-                    answer: Outcome::Done,
-                    window: w,
-                    table: t,
-                };
-            }
-            let e = t.files[i as usize];
-            let wrote = growths::put(
-                g.block_size,
-                g.block_count,
-                l,
-                image,
-                health,
-                t,
-                w,
-                e,
-                pos,
-                data,
-            );
-            finish(t, i, wrote)
-        }
-        files::Found::Missing => Stored {
-            answer: Outcome::Missing,
-            window: w,
-            table: t,
-        },
-        files::Found::Refused => Stored {
-            answer: Outcome::Refused,
-            window: w,
-            table: t,
-        },
+        files::Found::At(i) => write_file(
+            g.block_size,
+            g.block_count,
+            l,
+            image,
+            health,
+            w,
+            t,
+            i,
+            pos,
+            data,
+        ),
+        files::Found::Missing => left(Outcome::Missing, w, t),
+        files::Found::Refused => left(Outcome::Refused, w, t),
     }
 }
 
@@ -127,57 +92,22 @@ pub fn truncate(
         r (now (image .exit)) ⌝ }
 {
     if !valid_store(g, l, image.len(), health, w) {
-        return Stored {
-            answer: Outcome::Refused,
-            window: w,
-            table: t,
-        };
+        return left(Outcome::Refused, w, t);
     }
     let place = files::find(t, number);
     match place {
-        files::Found::At(i) => {
-            if Geometry::FILE_MAX < size {
-                return Stored {
-                    answer: Outcome::Refused,
-                    window: w,
-                    table: t,
-                };
-            }
-            let e = t.files[i as usize];
-            let old = e.size;
-            if size < old {
-                return shrink(g.block_size, g.block_count, &image[..], w, t, i, size);
-            }
-            if size == old {
-                return Stored {
-                    answer: Outcome::Done,
-                    window: w,
-                    table: t,
-                };
-            }
-            let wrote = growths::put(
-                g.block_size,
-                g.block_count,
-                l,
-                image,
-                health,
-                t,
-                w,
-                e,
-                size,
-                &health[0..0],
-            );
-            finish(t, i, wrote)
-        }
-        files::Found::Missing => Stored {
-            answer: Outcome::Missing,
-            window: w,
-            table: t,
-        },
-        files::Found::Refused => Stored {
-            answer: Outcome::Refused,
-            window: w,
-            table: t,
-        },
+        files::Found::At(i) => truncate_file(
+            g.block_size,
+            g.block_count,
+            l,
+            image,
+            health,
+            w,
+            t,
+            i,
+            size,
+        ),
+        files::Found::Missing => left(Outcome::Missing, w, t),
+        files::Found::Refused => left(Outcome::Refused, w, t),
     }
 }

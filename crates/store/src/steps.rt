@@ -10,7 +10,7 @@ ghost use mathlib.Core.Path.{_≡_};
 ghost use Prim.Native.Nat.{_<_};
 ghost use lib.ListN.{length};
 ghost use Rattle.files.specs.Table.{filesMax};
-ghost use Rattle.store.specs.Store.{shrinks};
+ghost use Rattle.store.specs.Store.{stays, shrinks};
 ghost use Rattle.store.specs.Put.{finishOf};
 ghost use Rattle.store.specs.Calls.{testedOf, Shrinking};
 
@@ -31,6 +31,17 @@ pub fn valid_store(g: Geometry, l: u32, len: usize, health: &[u8], w: Lookahead)
     window::valid_window(w, n, l)
 }
 
+// An answer, with window and table as they are.
+pub fn left(answer: Outcome, w: Lookahead, t: Table) -> Stored
+    ensures { λ r. ⌜ r ≡ stays answer w t ⌝ }
+{
+    Stored {
+        answer: answer,
+        window: w,
+        table: t,
+    }
+}
+
 // The table changes last, and only for a write that came to its end.
 pub fn finish(t: Table, i: u32, wrote: Wrote) -> Stored
     requires { ⌜ i < filesMax ⌝ }
@@ -44,16 +55,8 @@ pub fn finish(t: Table, i: u32, wrote: Wrote) -> Stored
             window: w,
             table: files::put(t, i, size, head),
         },
-        Writing::NoRoom => Stored {
-            answer: Outcome::Full,
-            window: w,
-            table: t,
-        },
-        Writing::Corrupt => Stored {
-            answer: Outcome::Damaged,
-            window: w,
-            table: t,
-        },
+        Writing::NoRoom => left(Outcome::Full, w, t),
+        Writing::Corrupt => left(Outcome::Damaged, w, t),
     }
 }
 
@@ -81,15 +84,7 @@ pub fn shrink(b: u32, n: u32, image: &[u8], w: Lookahead, t: Table, i: u32, size
             window: w,
             table: files::put(t, i, size, block),
         },
-        ctz::Found::Damaged => Stored {
-            answer: Outcome::Damaged,
-            window: w,
-            table: t,
-        },
-        ctz::Found::Refused => Stored {
-            answer: Outcome::Damaged,
-            window: w,
-            table: t,
-        },
+        ctz::Found::Damaged => left(Outcome::Damaged, w, t),
+        ctz::Found::Refused => left(Outcome::Damaged, w, t),
     }
 }

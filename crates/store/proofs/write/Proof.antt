@@ -1,22 +1,24 @@
--- `store::write` meets its contract: test by test, then the write behind them and the change of the table. Assumes nothing.
+-- `store::write` meets its contract: the tests in their order, then the file. Assumes nothing.
 use mathlib.Core.Path.{sym, _∙_}
 use Rattle.grow.proofs.Tests.{held, fails}
-use Rattle.store.proofs.Tested.{slot, putting}
-use Rattle.store.proofs.Calls.{gives, finishes, write-untested, write-no-table, write-missing, write-far, write-large, write-none, write-some}
+use Rattle.store.proofs.Tested.{asked}
+use Rattle.store.proofs.Files.{gives}
+use Rattle.store.proofs.Calls.{write-untested, write-no-table, write-missing, write-found}
 use borrow.Author.Needs.{needs}
-use native.Mathlib.Omega.{arith}
 use Rattle.store.proofs.write.Statement.{statement}
 use Rattle.store.proofs.write.Tie as tie
 
 valid-store-requires : tie.Need-valid-store-requires
 valid-store-requires c κs = search needs
 
+left-requires : tie.Need-left-requires
+left-requires c κs = search needs
+
 returns : tie.Need-returns
 returns c =
-    let s = c .before .before .before .before .before in
-    let a = s .args in
-    gives _ _ _ _ (write-untested (a .g .«block_size») (a .g .«block_count») (a .l) (a .image .now) (a .health .now) (a .w) (a .t6) (a .number)
-    (a .pos) (a .«data» .now) (fails (c .before .valid-store .ensures) (c .if1 .taken)))
+    let v = c .before .before in
+    let a = v .before .before .before .before .args in
+    gives (write-untested (a .g .«block_size») (a .g .«block_count») (a .l) (a .image .now) (a .health .now) (a .w) (a .t) (a .number) (a .pos) (a .«data» .now) (fails (v .valid-store .ensures) (c .before .if1 .taken))) (c .left .ensures)
 
 find-requires : tie.Need-find-requires
 find-requires c κs = search needs
@@ -24,134 +26,70 @@ find-requires c κs = search needs
 enum-known-place : tie.Need-enum-known-place
 enum-known-place c = search needs
 
-returns-2 : tie.Need-returns-2
-returns-2 c =
-    let s = c .before .before .before .before .before .before .before .before .before .before in
-    let a = s .args in
-    let t = held (c .before .before .before .before .before .before .valid-store .ensures) (c .before .before .before .before .before .if1 .left) in
-    let f = sym (c .before .before .before .before .find .ensures) ∙ c .before .before .place .given .1 in
-    gives _ _ _ _ (write-far (a .g .«block_size») (a .g .«block_count») (a .l) (a .image .now) (a .health .now) (a .w) (a .t6) (a .number) (a .pos)
-    (a .«data» .now) t _ f (c .if2 .taken))
-
-cast-if3 : tie.Need-cast-if3
-cast-if3 c = search needs
-
-returns-3 : tie.Need-returns-3
-returns-3 c =
-    let s = c .before .before .before .before .before .before .before .before .before .before .before in
-    let a = s .args in
-    let t = held (c .before .before .before .before .before .before .before .valid-store .ensures)
-    (c .before .before .before .before .before .before .if1 .left) in
-    let f = sym (c .before .before .before .before .before .find .ensures) ∙ c .before .before .before .place .given .1 in
-    gives _ _ _ _ (write-large (a .g .«block_size») (a .g .«block_count») (a .l) (a .image .now) (a .health .now) (a .w) (a .t6) (a .number) (a .pos)
-    (a .«data» .now) t _ f (c .before .if2 .left) (omega (arith, c .before .if2 .left, c .if3 .taken)))
-
-returns-4 : tie.Need-returns-4
-returns-4 c =
-    let s = c .before .before .before .before .before .before .before .before .before .before .before .before in
-    let a = s .args in
-    let t = held (c .before .before .before .before .before .before .before .before .valid-store .ensures)
-    (c .before .before .before .before .before .before .before .if1 .left) in
-    let f = sym (c .before .before .before .before .before .before .find .ensures) ∙ c .before .before .before .before .place .given .1 in
-    gives _ _ _ _ (write-none (a .g .«block_size») (a .g .«block_count») (a .l) (a .image .now) (a .health .now) (a .w) (a .t6) (a .number) (a .pos)
-    (a .«data» .now) t _ f (c .before .before .if2 .left) (omega (arith, c .before .before .if2 .left, c .before .if3 .left)) (c .if4 .taken))
-
-cast-e : tie.Need-cast-e
-cast-e c = search needs
-
-mul-e : tie.Need-mul-e
-mul-e c = search needs
-
-element-copy-out-e : tie.Need-element-copy-out-e
-element-copy-out-e c =
-    let s = c .before .before .before .before .before .before .before .before .before .before .before .before in
-    let a = s .args in
-    let t = held (c .before .before .before .before .before .before .before .before .valid-store .ensures)
-    (c .before .before .before .before .before .before .before .if1 .left) in
-    let f = sym (c .before .before .before .before .before .before .find .ensures) ∙ c .before .before .before .before .place .given .1 in
-    let i = c .before .before .before .before .place .given .0 .0 in
-    slot (a .g .«block_size») (a .g .«block_count») (a .l) (a .image .now) (a .health .now) (a .w) (a .t6) (a .number) i t f
-
-put-requires : tie.Need-put-requires
-put-requires c κs =
-    let s = c .before .before .before .before .before .before .before .before .before .before .before .before .before .before in
-    let a = s .args in
-    let t = held (c .before .before .before .before .before .before .before .before .before .before .valid-store .ensures)
-    (c .before .before .before .before .before .before .before .before .before .if1 .left) in
-    let f = sym (c .before .before .before .before .before .before .before .before .find .ensures)
-    ∙ c .before .before .before .before .before .before .place .given .1 in
-    let i = c .before .before .before .before .before .before .place .given .0 .0 in
-    putting (a .g .«block_size») (a .g .«block_count») (a .l) (a .image .now) (a .health .now) (a .w) (a .t6) (a .number) i t f _ _
-    (omega (arith, c .before .before .before .before .if2 .left, c .before .before .before .if3 .left))
-
-finish-requires : tie.Need-finish-requires
-finish-requires c κs =
-    let s = c .before .before .before .before .before .before .before .before .before .before .before .before .before .before .before .before .before in
-    let a = s .args in
-    let t = held (c .before .before .before .before .before .before .before .before .before .before .before .before .before .valid-store .ensures)
-    (c .before .before .before .before .before .before .before .before .before .before .before .before .if1 .left) in
-    let f = sym (c .before .before .before .before .before .before .before .before .before .before .before .find .ensures)
-    ∙ c .before .before .before .before .before .before .before .before .before .place .given .1 in
-    let i = c .before .before .before .before .before .before .before .before .before .place .given .0 .0 in
-    slot (a .g .«block_size») (a .g .«block_count») (a .l) (a .image .now) (a .health .now) (a .w) (a .t6) (a .number) i t f
+write-file-requires : tie.Need-write-file-requires
+write-file-requires c κs =
+    let q = c .before .before in
+    let f = q .before .before in
+    let v = f .before .before in
+    let a = v .before .before .before .before .args in
+    asked (a .g .«block_size») (a .g .«block_count») (a .l) (a .image .now) (a .health .now) (a .w) (a .t) (a .number) _ (held (v .valid-store .ensures) (f .before .if1 .left)) (sym (f .find .ensures) ∙ q .place .given .1)
 
 enum-told : tie.Need-enum-told
 enum-told c = search needs
 
+left-requires-2 : tie.Need-left-requires-2
+left-requires-2 c κs = search needs
+
 enum-told-2 : tie.Need-enum-told-2
 enum-told-2 c = search needs
+
+left-requires-3 : tie.Need-left-requires-3
+left-requires-3 c κs = search needs
 
 same-length : tie.Need-same-length
 same-length c = search needs
 
-returns-5 : tie.Need-returns-5
-returns-5 c =
-    let s = c .before .before .before .before .before .before .before .before .before .before .before .before .before .before .before .before .before .before in
-    let a = s .args in
-    let t = held (c .before .before .before .before .before .before .before .before .before .before .before .before .before .before .valid-store .ensures) (c .before .before .before .before .before .before .before .before .before .before .before .before .before .if1 .left) in
-    let f = sym (c .before .before .before .before .before .before .before .before .before .before .before .before .find .ensures)
-    ∙ c .before .before .before .before .before .before .before .before .before .before .place .given .1 in
-    let i = c .before .before .before .before .before .before .before .before .before .before .place .given .0 .0 in
-    rw (write-some (a .g .«block_size») (a .g .«block_count») (a .l) (a .image .now) (a .health .now) (a .w) (a .t6) (a .number) (a .pos)
-    (a .«data» .now) t i f (c .before .before .before .before .before .before .before .before .if2 .left)
-    (omega (arith, c .before .before .before .before .before .before .before .before .if2 .left, c .before .before .before .before .before .before .before .if3 .left)) (c .before .before .before .before .before .before .if4 .left)) (finishes (a .t6) i (c .before .before .before .put .ensures) (c .finish .ensures))
+returns-2 : tie.Need-returns-2
+returns-2 c =
+    let w = c .before .before in
+    let q = w .before .before .before in
+    let f = q .before .before in
+    let v = f .before .before in
+    let a = v .before .before .before .before .args in
+    rw (write-found (a .g .«block_size») (a .g .«block_count») (a .l) (a .image .now) (a .health .now) (a .w) (a .t) (a .number) (a .pos) (a .«data» .now) (held (v .valid-store .ensures) (f .before .if1 .left)) _ (sym (f .find .ensures) ∙ q .place .given .1))
+    (w .write-file .ensures)
 
-returns-6 : tie.Need-returns-6
-returns-6 c =
-    let s = c .before .before .before .before .before .before .before .before in
-    let a = s .args in
-    let t = held (c .before .before .before .before .valid-store .ensures) (c .before .before .before .if1 .left) in
-    gives _ _ _ _ (write-missing (a .g .«block_size») (a .g .«block_count») (a .l) (a .image .now) (a .health .now) (a .w) (a .t6) (a .number)
-    (a .pos) (a .«data» .now) t (sym (c .before .before .find .ensures) ∙ c .enum-told .given .1))
+returns-3 : tie.Need-returns-3
+returns-3 c =
+    let f = c .before .before .before in
+    let v = f .before .before in
+    let a = v .before .before .before .before .args in
+    gives (write-missing (a .g .«block_size») (a .g .«block_count») (a .l) (a .image .now) (a .health .now) (a .w) (a .t) (a .number) (a .pos) (a .«data» .now) (held (v .valid-store .ensures) (f .before .if1 .left)) (sym (f .find .ensures) ∙ c .before .enum-told .given .1))
+    (c .left2 .ensures)
 
-returns-7 : tie.Need-returns-7
-returns-7 c =
-    let s = c .before .before .before .before .before .before .before .before in
-    let a = s .args in
-    let t = held (c .before .before .before .before .valid-store .ensures) (c .before .before .before .if1 .left) in
-    gives _ _ _ _ (write-no-table (a .g .«block_size») (a .g .«block_count») (a .l) (a .image .now) (a .health .now) (a .w) (a .t6) (a .number)
-    (a .pos) (a .«data» .now) t (sym (c .before .before .find .ensures) ∙ c .enum-told2 .given .1))
+returns-4 : tie.Need-returns-4
+returns-4 c =
+    let f = c .before .before .before in
+    let v = f .before .before in
+    let a = v .before .before .before .before .args in
+    gives (write-no-table (a .g .«block_size») (a .g .«block_count») (a .l) (a .image .now) (a .health .now) (a .w) (a .t) (a .number) (a .pos) (a .«data» .now) (held (v .valid-store .ensures) (f .before .if1 .left)) (sym (f .find .ensures) ∙ c .before .enum-told2 .given .1))
+    (c .left3 .ensures)
 
 pub write-spec : {M : Type 1} → statement M
 write-spec =
     tie.close
     (tie.spec
     valid-store-requires
+    left-requires
     returns
     find-requires
     enum-known-place
-    returns-2
-    cast-if3
-    returns-3
-    returns-4
-    cast-e
-    mul-e
-    element-copy-out-e
-    put-requires
-    finish-requires
+    write-file-requires
     enum-told
+    left-requires-2
     enum-told-2
+    left-requires-3
     same-length
-    returns-5
-    returns-6
-    returns-7)
+    returns-2
+    returns-3
+    returns-4)

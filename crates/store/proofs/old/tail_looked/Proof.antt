@@ -6,7 +6,8 @@ use Rattle.layout.proofs.Served.{served, index-in}
 use Rattle.store.specs.Write.{looked}
 use Rattle.store.specs.Store.{lookIn}
 use Rattle.store.specs.Lookups.{tailWanted}
-use Rattle.store.proofs.Looks.{look-same, told-block, told-lost, tail-lost, tail-turn, tail-end}
+use Rattle.store.proofs.Looks.{look-same, told-block, told-lost}
+use Rattle.store.proofs.Heads.{tail-lost, tail-turn, tail-end}
 use borrow.Author.Needs.{needs}
 use native.Mathlib.Omega.{arith}
 use Rattle.store.proofs.old.tail_looked.Statement.{statement}

@@ -1,5 +1,6 @@
 -- `store::steps::shrink` meets its contract: by the lookup of the last byte that is kept. Assumes nothing.
-use Rattle.store.proofs.Calls.{shrinks-empty, shrinks-found, shrinks-damaged, shrinks-refused}
+use mathlib.Core.Path.{_∙_}
+use Rattle.store.proofs.Files.{shrinks-empty, shrinks-found, shrinks-damaged, shrinks-refused}
 use borrow.Author.Needs.{needs}
 use Rattle.store.proofs.steps.shrink.Statement.{statement}
 use Rattle.store.proofs.steps.shrink.Tie as tie
@@ -34,8 +35,14 @@ put-requires-2 c κs = search needs
 enum-told : tie.Need-enum-told
 enum-told c = search needs
 
+left-requires : tie.Need-left-requires
+left-requires c κs = search needs
+
 enum-told-2 : tie.Need-enum-told-2
 enum-told-2 c = search needs
+
+left-requires-2 : tie.Need-left-requires-2
+left-requires-2 c κs = search needs
 
 returns-2 : tie.Need-returns-2
 returns-2 c =
@@ -46,17 +53,17 @@ returns-2 c =
 
 returns-3 : tie.Need-returns-3
 returns-3 c =
-    let s = c .before .before .before .before .before .before in
-    let a = s .args in
-    shrinks-damaged (a .b) (a .n) (a .image .now) (a .w) (a .t5) (a .i) (a .size) (c .before .before .before .before .if1 .left)
-    (c .before .before .find-in .ensures) (c .enum-told .given .1)
+    let f = c .before .before .before in
+    let a = f .before .before .before .before .args in
+    c .left .ensures ∙ shrinks-damaged (a .b) (a .n) (a .image .now) (a .w) (a .t5) (a .i) (a .size) (f .before .before .if1 .left)
+    (f .find-in .ensures) (c .before .enum-told .given .1)
 
 returns-4 : tie.Need-returns-4
 returns-4 c =
-    let s = c .before .before .before .before .before .before in
-    let a = s .args in
-    shrinks-refused (a .b) (a .n) (a .image .now) (a .w) (a .t5) (a .i) (a .size) (c .before .before .before .before .if1 .left)
-    (c .before .before .find-in .ensures) (c .enum-told2 .given .1)
+    let f = c .before .before .before in
+    let a = f .before .before .before .before .args in
+    c .left2 .ensures ∙ shrinks-refused (a .b) (a .n) (a .image .now) (a .w) (a .t5) (a .i) (a .size) (f .before .before .if1 .left)
+    (f .find-in .ensures) (c .before .enum-told2 .given .1)
 
 pub shrink-spec : {M : Type 1} → statement M
 shrink-spec =
@@ -71,7 +78,9 @@ shrink-spec =
     enum-known-found
     put-requires-2
     enum-told
+    left-requires
     enum-told-2
+    left-requires-2
     returns-2
     returns-3
     returns-4)
