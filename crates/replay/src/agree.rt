@@ -1,9 +1,13 @@
 // Whether an answer is the one that a record has, and whether two windows agree.
 use crate::list::word;
 use window::Lookahead;
+ghost use mathlib.Core.Path.{_≡_};
+ghost use Rattle.replay.specs.Agreement.{toldOf, bitAt, mapsAgree, windowsAgree};
 
 // Whether these are the four words of the answer.
-pub fn told(list: &[u8], at: usize, code: u32, first: u32, second: u32, third: u32) -> bool {
+pub fn told(list: &[u8], at: usize, code: u32, first: u32, second: u32, third: u32) -> bool
+    ensures { λ r. ⌜ r ≡ toldOf (now (list .entry)) at code first second third ⌝ }
+{
     if code != word(list, at, 0) {
         return false;
     }
@@ -17,7 +21,9 @@ pub fn told(list: &[u8], at: usize, code: u32, first: u32, second: u32, third: u
 }
 
 // Bit `o` of a map; 0 past its end.
-fn bit(map: [u8; 64], o: u32) -> u8 {
+fn bit(map: [u8; 64], o: u32) -> u8
+    ensures { λ r. ⌜ r ≡ bitAt map o ⌝ }
+{
     let i = (o / 8) as usize;
     if i < 64 {
         return (map[i] >> ((o % 8) as u8)) % 2;
@@ -26,7 +32,9 @@ fn bit(map: [u8; 64], o: u32) -> u8 {
 }
 
 // Whether two maps agree from bit `next` on.
-fn same_map(ours: [u8; 64], theirs: [u8; 64], next: u32) -> bool {
+fn same_map(ours: [u8; 64], theirs: [u8; 64], next: u32) -> bool
+    ensures { λ r. ⌜ r ≡ mapsAgree ours theirs next ⌝ }
+{
     let mut o = next;
     while o < 512 {
         if bit(ours, o) != bit(theirs, o) {
@@ -38,7 +46,9 @@ fn same_map(ours: [u8; 64], theirs: [u8; 64], next: u32) -> bool {
 }
 
 // Whether two windows agree: all numbers, and the map of the blocks that are not passed yet.
-pub fn same_window(ours: Lookahead, theirs: Lookahead) -> bool {
+pub fn same_window(ours: Lookahead, theirs: Lookahead) -> bool
+    ensures { λ r. ⌜ r ≡ windowsAgree ours theirs ⌝ }
+{
     if ours.start != theirs.start {
         return false;
     }

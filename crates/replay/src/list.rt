@@ -2,9 +2,13 @@
 use files::Entry;
 use files::Table;
 use window::Lookahead;
+ghost use mathlib.Core.Path.{_≡_};
+ghost use Rattle.replay.specs.Records.{wordOf, partOf, signedOf, mapOf, windowOf, tableAt};
 
 // Word `k`, low byte first, of what stands at byte `at`.
-pub fn word(list: &[u8], at: usize, k: u32) -> u32 {
+pub fn word(list: &[u8], at: usize, k: u32) -> u32
+    ensures { λ r. ⌜ r ≡ wordOf (now (list .entry)) at k ⌝ }
+{
     let from = 4 * k as usize;
     if list.len() < at {
         return 0;
@@ -16,12 +20,16 @@ pub fn word(list: &[u8], at: usize, k: u32) -> u32 {
 }
 
 // The place in the list that a word names.
-pub fn place(list: &[u8], at: usize, k: u32) -> usize {
+pub fn place(list: &[u8], at: usize, k: u32) -> usize
+    ensures { λ r. ⌜ r ≡ wordOf (now (list .entry)) at k ⌝ }
+{
     word(list, at, k) as usize
 }
 
 // The `length` bytes from `at` on.
-pub fn part<'a>(list: &'a [u8], at: usize, length: usize) -> &'a [u8] {
+pub fn part<'a>(list: &'a [u8], at: usize, length: usize) -> &'a [u8]
+    ensures { λ r. ⌜ now r ≡ partOf (now (list .entry)) at length ⌝ }
+{
     if list.len() < at {
         return &list[0..0];
     }
@@ -32,7 +40,9 @@ pub fn part<'a>(list: &'a [u8], at: usize, length: usize) -> &'a [u8] {
 }
 
 // A word as a signed number.
-pub fn signed(x: u32) -> i32 {
+pub fn signed(x: u32) -> i32
+    ensures { λ r. ⌜ r ≡ signedOf x ⌝ }
+{
     if x < 2147483648 {
         x as i32
     } else {
@@ -41,7 +51,9 @@ pub fn signed(x: u32) -> i32 {
 }
 
 // The map of a window: 64 bytes from `at` on.
-fn map(list: &[u8], at: usize) -> [u8; 64] {
+fn map(list: &[u8], at: usize) -> [u8; 64]
+    ensures { λ r. ⌜ r ≡ mapOf (now (list .entry)) at ⌝ }
+{
     let mut bytes = [0u8; 64];
     let found = part(list, at, 64);
     if found.len() == 64 {
@@ -51,7 +63,9 @@ fn map(list: &[u8], at: usize) -> [u8; 64] {
 }
 
 // The window at `at`: start, next, size, checkpoint count, and the place of its map.
-pub fn window(list: &[u8], at: usize) -> Lookahead {
+pub fn window(list: &[u8], at: usize) -> Lookahead
+    ensures { λ r. ⌜ r ≡ windowOf (now (list .entry)) at ⌝ }
+{
     let bytes = map(list, place(list, at, 4));
     Lookahead {
         map: bytes,
@@ -63,7 +77,9 @@ pub fn window(list: &[u8], at: usize) -> Lookahead {
 }
 
 // The table at `at`: how many files, and the size and head of each; their numbers rise from 0.
-pub fn table(list: &[u8], at: usize) -> Table {
+pub fn table(list: &[u8], at: usize) -> Table
+    ensures { λ r. ⌜ r ≡ tableAt (now (list .entry)) at ⌝ }
+{
     let mut t = Table::empty();
     let count = word(list, at, 0);
     if Table::MOST < count {

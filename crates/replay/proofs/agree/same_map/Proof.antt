@@ -1,11 +1,14 @@
--- `agree::same_map` is safe and ends: each turn passes one bit of 512. Assumes nothing.
+-- `agree::same_map` meets its contract: whether the bits from the next one on agree answers the whole. Assumes nothing.
+use mathlib.Core.Path.{_≡_, _∙_, sym}
 use Prim.Native.Nat.{_-_}
 use borrow.Author.Needs.{needs}
+use Rattle.replay.specs.Agreement.{mapsAgree}
+use Rattle.replay.proofs.Agreeing.{maps-end, maps-turn, maps-differ}
 use Rattle.replay.proofs.agree.same_map.Statement.{statement}
 use Rattle.replay.proofs.agree.same_map.Tie as tie
 
 abbrev Inv-loop : tie.InvT-loop
-Inv-loop ours theirs next o₀ o = Unit {0}
+Inv-loop ours theirs next o₀ o = mapsAgree ours theirs next ≡ mapsAgree ours theirs o
 
 abbrev μ-loop : tie.MeasureT-loop
 μ-loop ours theirs next o₀ o = 512 - o
@@ -20,7 +23,7 @@ bit-requires-2 : tie.Need-bit-requires-2 Inv-loop μ-loop
 bit-requires-2 c κs = search needs
 
 returns : tie.Need-returns Inv-loop μ-loop
-returns c = search needs
+returns c = sym (c .before .before .before .before .loop .inv ∙ maps-differ _ _ _ _ _ (c .before .before .before .loop-test .taken) (c .before .before .bit .ensures) (c .before .bit2 .ensures) (c .if1 .taken))
 
 add-o : tie.Need-add-o Inv-loop μ-loop
 add-o c = search needs
@@ -29,10 +32,10 @@ loop-less : tie.Need-loop-less Inv-loop μ-loop
 loop-less c = search needs
 
 loop-again : tie.Need-loop-again Inv-loop μ-loop
-loop-again c = search needs
+loop-again c = c .before .before .before .before .loop .inv ∙ maps-turn _ _ _ _ _ (c .before .before .before .loop-test .taken) (c .before .before .bit .ensures) (c .before .bit2 .ensures) (c .if1 .left)
 
 returns-2 : tie.Need-returns-2 Inv-loop μ-loop
-returns-2 c = search needs
+returns-2 c = sym (c .before .loop .inv ∙ maps-end _ _ _ (c .loop-test .left))
 
 pub same-map-spec : {M : Type 1} → statement M
 same-map-spec =

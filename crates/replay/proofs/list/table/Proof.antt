@@ -1,11 +1,12 @@
--- `list::table` is safe and ends: each turn reads one file of at most 32. Assumes nothing.
-use Prim.Native.Nat.{_-_, _≤_}
+-- `list::table` meets its contract. The invariant: the files so far are in the slots. Assumes nothing.
+use Prim.Native.Nat.{_-_}
 use borrow.Author.Needs.{needs}
+use Rattle.replay.proofs.Tables.{Filled, filled-start, filled-turn, filled-end, too-many}
 use Rattle.replay.proofs.list.table.Statement.{statement}
 use Rattle.replay.proofs.list.table.Tie as tie
 
 abbrev Inv-loop : tie.InvT-loop
-Inv-loop list at t₀ count i₀ t i = (i ≤ count) × (count ≤ 32)
+Inv-loop list at t₀ count i₀ t i = Filled list at count (t .files) i
 
 abbrev μ-loop : tie.MeasureT-loop
 μ-loop list at t₀ count i₀ t i = count - i
@@ -17,10 +18,10 @@ word-requires : tie.Need-word-requires Inv-loop μ-loop
 word-requires c κs = search needs
 
 returns : tie.Need-returns Inv-loop μ-loop
-returns c = search needs
+returns c = too-many _ _ _ _ (c .before .word .ensures) (c .before .before .empty .ensures) (c .if1 .taken)
 
 loop-holds : tie.Need-loop-holds Inv-loop μ-loop
-loop-holds c = search needs
+loop-holds c = filled-start _ _ _ _ (c .before .word .ensures) (c .before .before .empty .ensures) (c .if1 .left)
 
 mul-word : tie.Need-mul-word Inv-loop μ-loop
 mul-word c = search needs
@@ -56,10 +57,10 @@ loop-less : tie.Need-loop-less Inv-loop μ-loop
 loop-less c = search needs
 
 loop-again : tie.Need-loop-again Inv-loop μ-loop
-loop-again c = search needs
+loop-again c = filled-turn _ _ _ _ _ _ _ (c .before .before .before .loop .inv) (c .before .before .loop-test .taken) (c .before .word2 .ensures) (c .word3 .ensures)
 
 returns-2 : tie.Need-returns-2 Inv-loop μ-loop
-returns-2 c = search needs
+returns-2 c = filled-end _ _ _ _ _ (c .before .loop .inv) (c .loop-test .left)
 
 pub table-spec : {M : Type 1} → statement M
 table-spec =

@@ -1,0 +1,4 @@
+-- The laws of the replay.
+mod Placed
+mod Tables
+mod Agreeing
