@@ -2,3 +2,6 @@
 mod Placed
 mod Tables
 mod Agreeing
+mod Listed
+mod Sought
+mod Allotted

@@ -1,3 +1,6 @@
 -- The definitions that the contracts of `replay` cite.
 pub mod Records
 pub mod Agreement
+pub mod Lists
+pub mod Files
+pub mod Blocks

@@ -1,10 +1,11 @@
--- What stands in the list of answers: words, parts, windows and tables. Past its end a word is 0 and a part is empty.
+-- What stands in the list of answers: words, parts, cards, windows and tables. Past its end a word is 0 and a part is empty.
 use mathlib.Core.Bool.{true, false}
 use mathlib.Core.List.{List, [], _∷_}
 use Prim.Native.Nat.{ℕ, zero, suc, _+_, _-_, _*_}
 use lib.ListN.{length, take, drop, replicate}
 use lib.Dec.{ltb, leb}
 use lib.IntN.{ℤ, pos, negsuc}
+use Rattle.layout.specs.declared.Geometry.{Geometry}
 use Rattle.span.specs.Words.{wordAt}
 use Rattle.files.specs.declared.Entry.{Entry}
 use Rattle.files.specs.declared.Table.{Table}
@@ -18,6 +19,13 @@ wordOf list at k = elim (leb (at + 4 * k + 4) (length list)) [ true ↦ wordAt l
 -- the n bytes from `at` on; none where they are not all in the list
 unfoldable pub partOf : List ℕ → ℕ → ℕ → List ℕ
 partOf list at n = elim (leb (at + n) (length list)) [ true ↦ take n (drop at list) | false ↦ [] ]
+
+-- a card: block size, block count and lookahead, then the place and the length of its image
+abbrev pub geometryOf : List ℕ → ℕ → Geometry
+geometryOf list card = record { «block_size» = wordOf list card 0; «block_count» = wordOf list card 1 }
+
+abbrev pub imageOf : List ℕ → ℕ → List ℕ
+imageOf list card = partOf list (wordOf list card 3) (wordOf list card 4)
 
 -- a word as a signed number: two's complement
 unfoldable pub signedOf : ℕ → ℤ

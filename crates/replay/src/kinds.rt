@@ -20,9 +20,16 @@ use grow::Growth;
 use layout::Geometry;
 use layout::Place;
 use window::Answer;
+ghost use mathlib.Core.Path.{_≡_};
+ghost use Rattle.replay.specs.Records.{geometryOf, imageOf};
+ghost use Rattle.replay.specs.Lists.{indexEqual, findEqual, visitedOf, visitEqual};
+ghost use Rattle.replay.specs.Files.{someHead, oneFile, seekEqual};
+ghost use Rattle.replay.specs.Blocks.{answerTold, allocEqual, growthTold, grownEqual, extendEqual};
 
 // The geometry of a card: its first two words.
-fn geometry(list: &[u8], card: usize) -> Geometry {
+fn geometry(list: &[u8], card: usize) -> Geometry
+    ensures { λ r. ⌜ r ≡ geometryOf (now (list .entry)) card ⌝ }
+{
     Geometry {
         block_size: word(list, card, 0),
         block_count: word(list, card, 1),
@@ -30,12 +37,16 @@ fn geometry(list: &[u8], card: usize) -> Geometry {
 }
 
 // The image of a card: the place and the length of its bytes.
-fn image<'a>(list: &'a [u8], card: usize) -> &'a [u8] {
+fn image<'a>(list: &'a [u8], card: usize) -> &'a [u8]
+    ensures { λ r. ⌜ now r ≡ imageOf (now (list .entry)) card ⌝ }
+{
     part(list, place(list, card, 3), place(list, card, 4))
 }
 
 // Index and offset of a position.
-pub fn index(list: &[u8], at: usize) -> bool {
+pub fn index(list: &[u8], at: usize) -> bool
+    ensures { λ r. ⌜ r ≡ indexEqual (now (list .entry)) at ⌝ }
+{
     let found = layout::ctz_index(word(list, at, 4), word(list, at, 5));
     match found {
         Place::At { index, offset } => told(list, at, 0, index, offset, 0),
@@ -44,7 +55,9 @@ pub fn index(list: &[u8], at: usize) -> bool {
 }
 
 // Block, offset and hops of a position.
-pub fn find(list: &[u8], at: usize) -> bool {
+pub fn find(list: &[u8], at: usize) -> bool
+    ensures { λ r. ⌜ r ≡ findEqual (now (list .entry)) at ⌝ }
+{
     let card = place(list, at, 4);
     let found = ctz::ctz_find(
         geometry(list, card),
@@ -65,7 +78,9 @@ pub fn find(list: &[u8], at: usize) -> bool {
 }
 
 // The blocks that a visit hands over, in their order, and how many: at most 64.
-fn visited(list: &[u8], at: usize, card: usize, blocks: usize, begun: Visit) -> bool {
+fn visited(list: &[u8], at: usize, card: usize, blocks: usize, begun: Visit) -> bool
+    ensures { λ r. ⌜ r ≡ visitedOf 64 (now (list .entry)) at card blocks 0 begun ⌝ }
+{
     let g = geometry(list, card);
     let mut v = begun;
     let mut i: u32 = 0;
@@ -97,7 +112,9 @@ fn visited(list: &[u8], at: usize, card: usize, blocks: usize, begun: Visit) -> 
 }
 
 // The blocks of a list, last index first.
-pub fn visit(list: &[u8], at: usize) -> bool {
+pub fn visit(list: &[u8], at: usize) -> bool
+    ensures { λ r. ⌜ r ≡ visitEqual (now (list .entry)) at ⌝ }
+{
     let card = place(list, at, 4);
     let begun = ctz::visit::ctz_visit(geometry(list, card), word(list, at, 5), word(list, at, 6));
     match begun {
@@ -107,8 +124,22 @@ pub fn visit(list: &[u8], at: usize) -> bool {
     }
 }
 
+// Whether an allocation answers as the record has it: the block.
+fn answer_told(list: &[u8], at: usize, answer: Answer) -> bool
+    ensures { λ r. ⌜ r ≡ answerTold (now (list .entry)) at answer ⌝ }
+{
+    match answer {
+        Answer::Block(block) => told(list, at, 0, block, 0, 0),
+        Answer::NoSpace => told(list, at, 28, 0, 0, 0),
+        Answer::Damaged => told(list, at, 84, 0, 0, 0),
+        Answer::Refused => told(list, at, 22, 0, 0, 0),
+    }
+}
+
 // One allocation: the block, and the window afterwards.
-pub fn alloc(list: &[u8], at: usize) -> bool {
+pub fn alloc(list: &[u8], at: usize) -> bool
+    ensures { λ r. ⌜ r ≡ allocEqual (now (list .entry)) at ⌝ }
+{
     let card = place(list, at, 4);
     let got = alloc::alloc(
         geometry(list, card),
@@ -121,16 +152,25 @@ pub fn alloc(list: &[u8], at: usize) -> bool {
         return false;
     }
     let answer = got.answer;
+    answer_told(list, at, answer)
+}
+
+// Whether a growth answers as the record has it: block and offset.
+fn growth_told(list: &[u8], at: usize, answer: Growth) -> bool
+    ensures { λ r. ⌜ r ≡ growthTold (now (list .entry)) at answer ⌝ }
+{
     match answer {
-        Answer::Block(block) => told(list, at, 0, block, 0, 0),
-        Answer::NoSpace => told(list, at, 28, 0, 0, 0),
-        Answer::Damaged => told(list, at, 84, 0, 0, 0),
-        Answer::Refused => told(list, at, 22, 0, 0, 0),
+        Growth::Grown { block, offset } => told(list, at, 0, block, offset, 0),
+        Growth::Full => told(list, at, 28, 0, 0, 0),
+        Growth::Damaged => told(list, at, 84, 0, 0, 0),
+        Growth::Refused => told(list, at, 22, 0, 0, 0),
     }
 }
 
 // One growth on this image: block and offset with the window afterwards, or the whole image afterwards.
-fn grown(list: &[u8], at: usize, card: usize, image: &mut [u8], whole: bool) -> bool {
+fn grown(list: &[u8], at: usize, card: usize, image: &mut [u8], whole: bool) -> bool
+    ensures { λ r. ⌜ r ≡ grownEqual whole (now (list .entry)) at card (now (image .entry)) ⌝ }
+{
     let g = geometry(list, card);
     let grew = grow::ctz_extend(
         g,
@@ -150,16 +190,13 @@ fn grown(list: &[u8], at: usize, card: usize, image: &mut [u8], whole: bool) -> 
         return false;
     }
     let answer = grew.answer;
-    match answer {
-        Growth::Grown { block, offset } => told(list, at, 0, block, offset, 0),
-        Growth::Full => told(list, at, 28, 0, 0, 0),
-        Growth::Damaged => told(list, at, 84, 0, 0, 0),
-        Growth::Refused => told(list, at, 22, 0, 0, 0),
-    }
+    growth_told(list, at, answer)
 }
 
 // One growth on a copy of the card's image, which has at most 2,048 bytes.
-pub fn extend(list: &[u8], at: usize, whole: bool) -> bool {
+pub fn extend(list: &[u8], at: usize, whole: bool) -> bool
+    ensures { λ r. ⌜ r ≡ extendEqual whole (now (list .entry)) at ⌝ }
+{
     let card = place(list, at, 4);
     let before = image(list, card);
     let length = before.len();
@@ -171,18 +208,33 @@ pub fn extend(list: &[u8], at: usize, whole: bool) -> bool {
     grown(list, at, card, &mut space[..length], whole)
 }
 
-// Where a seek leads in a file of a size.
-pub fn seek(list: &[u8], at: usize) -> bool {
-    let size = word(list, at, 4);
+// A head that a file of this size can have.
+fn some_head(size: u32) -> u32
+    ensures { λ r. ⌜ r ≡ someHead size ⌝ }
+{
+    if size == 0 { Geometry::NULL } else { 3 }
+}
+
+// A table with file 7 alone.
+fn one_file(size: u32) -> Table
+    ensures { λ r. ⌜ r ≡ oneFile size ⌝ }
+{
     let mut t = Table::empty();
     t.files[0] = Entry {
         number: 7,
         size: size,
-        head: if size == 0 { Geometry::NULL } else { 3 },
+        head: some_head(size),
     };
     t.count = 1;
+    t
+}
+
+// Where a seek leads in a file of a size.
+pub fn seek(list: &[u8], at: usize) -> bool
+    ensures { λ r. ⌜ r ≡ seekEqual (now (list .entry)) at ⌝ }
+{
     let sought = files::seek(
-        t,
+        one_file(word(list, at, 4)),
         7,
         word(list, at, 5),
         signed(word(list, at, 6)),

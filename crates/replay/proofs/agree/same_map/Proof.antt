@@ -1,6 +1,7 @@
 -- `agree::same_map` meets its contract: whether the bits from the next one on agree answers the whole. Assumes nothing.
 use mathlib.Core.Path.{_≡_, _∙_, sym}
 use Prim.Native.Nat.{_-_}
+use native.Mathlib.Omega.{arith}
 use borrow.Author.Needs.{needs}
 use Rattle.replay.specs.Agreement.{mapsAgree}
 use Rattle.replay.proofs.Agreeing.{maps-end, maps-turn, maps-differ}
@@ -23,7 +24,11 @@ bit-requires-2 : tie.Need-bit-requires-2 Inv-loop μ-loop
 bit-requires-2 c κs = search needs
 
 returns : tie.Need-returns Inv-loop μ-loop
-returns c = sym (c .before .before .before .before .loop .inv ∙ maps-differ _ _ _ _ _ (c .before .before .before .loop-test .taken) (c .before .before .bit .ensures) (c .before .bit2 .ensures) (c .if1 .taken))
+returns c =
+    let d = c .before .before .before .before in
+    sym
+    (d .loop .inv ∙ maps-differ _ _ _ _ _ (omega (arith, c .before .before .before .loop-test .taken)) (c .before .before .bit .ensures)
+    (c .before .bit2 .ensures) (c .if1 .taken))
 
 add-o : tie.Need-add-o Inv-loop μ-loop
 add-o c = search needs
@@ -32,7 +37,10 @@ loop-less : tie.Need-loop-less Inv-loop μ-loop
 loop-less c = search needs
 
 loop-again : tie.Need-loop-again Inv-loop μ-loop
-loop-again c = c .before .before .before .before .loop .inv ∙ maps-turn _ _ _ _ _ (c .before .before .before .loop-test .taken) (c .before .before .bit .ensures) (c .before .bit2 .ensures) (c .if1 .left)
+loop-again c =
+    let d = c .before .before .before .before in
+    d .loop .inv ∙ maps-turn _ _ _ _ _ (omega (arith, c .before .before .before .loop-test .taken)) (c .before .before .bit .ensures)
+    (c .before .bit2 .ensures) (c .if1 .left)
 
 returns-2 : tie.Need-returns-2 Inv-loop μ-loop
 returns-2 c = sym (c .before .loop .inv ∙ maps-end _ _ _ (c .loop-test .left))

@@ -1,7 +1,8 @@
--- `kinds::extend` is safe and ends: the copy leaves the room as long as it was, so the part lent has the image's length. Assumes nothing.
+-- `kinds::extend` meets its contract: the part of the space that is lent is the card's image. Assumes nothing.
 use mathlib.Core.Path.{sym}
 use lib.Seq.{length-take-le}
 use borrow.Author.Needs.{needs}
+use Rattle.replay.proofs.Allotted.{front, too-long, copied}
 use Rattle.replay.proofs.kinds.extend.Statement.{statement}
 use Rattle.replay.proofs.kinds.extend.Tie as tie
 
@@ -12,7 +13,7 @@ image-requires : tie.Need-image-requires
 image-requires c κs = search needs
 
 returns : tie.Need-returns
-returns c = search needs
+returns c = too-long _ _ _ _ _ (c .before .before .place .ensures) (c .before .image .ensures) (c .if1 .taken)
 
 slice-aggregate-copy : tie.Need-slice-aggregate-copy
 slice-aggregate-copy c = search needs
@@ -30,7 +31,11 @@ grown-requires : tie.Need-grown-requires
 grown-requires c κs = search needs
 
 returns-2 : tie.Need-returns-2
-returns-2 c = search needs
+returns-2 c =
+    let i = c .before .before .before .before .before .before in
+    copied _ _ _ _ _ (i .before .before .place .ensures) (i .before .image .ensures) _ _ (i .if1 .left)
+    (front _ _ _ (i .if1 .left) (c .before .before .before .before .copy .ensures))
+    (c .before .grown .ensures)
 
 pub extend-spec : {M : Type 1} → statement M
 extend-spec =

@@ -14,7 +14,9 @@ copy-requires : tie.Need-copy-requires
 copy-requires c κs = search needs
 
 returns : tie.Need-returns
-returns c = map-in _ _ _ _ (c .before .before .before .before .part .ensures) (c .before .before .before .if1 .taken) (c .before .copy .ensures)
+returns c =
+    let d = c .before .before .before .before in
+    map-in _ _ _ _ (d .part .ensures) (c .before .before .before .if1 .taken) (c .before .copy .ensures)
 
 returns-2 : tie.Need-returns-2
 returns-2 c = map-out _ _ _ (c .before .part .ensures) (c .if1 .left)

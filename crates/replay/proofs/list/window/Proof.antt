@@ -22,7 +22,16 @@ word-requires-4 : tie.Need-word-requires-4
 word-requires-4 c κs = search needs
 
 returns : tie.Need-returns
-returns c = rw (c .word4 .ensures, c .before .word3 .ensures, c .before .before .word2 .ensures, c .before .before .before .word .ensures, c .before .before .before .before .map .ensures, c .before .before .before .before .before .place .ensures)
+returns c =
+    let d = c .before .before .before .before in
+    rw (
+      c .word4 .ensures,
+      c .before .word3 .ensures,
+      c .before .before .word2 .ensures,
+      c .before .before .before .word .ensures,
+      d .map .ensures,
+      d .before .place .ensures,
+    )
 
 pub window-spec : {M : Type 1} → statement M
 window-spec =

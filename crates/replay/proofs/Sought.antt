@@ -1,0 +1,48 @@
+-- What the records on a file ask, from the words that were read. Assumes nothing.
+use mathlib.Core.Path.{_≡_, _∙_}
+use mathlib.Core.Bool.{Bool}
+use mathlib.Core.List.{List, []}
+use Prim.Native.Nat.{ℕ, _<_}
+use lib.ListN.{set}
+use lib.IntN.{ℤ}
+use lib.Signed.{mag}
+use mir.Syntax.{w32}
+use mir.Val.{SFits, toZ, ofZ}
+use mir.Facts.{toZ-ofZ}
+use borrow.Author.Tests.{eq-eqb, ne-eqb}
+use Rattle.files.specs.declared.Table.{Table}
+use Rattle.files.specs.declared.Sought.{Sought}
+use Rattle.files.specs.Table.{nullBlock, tableOf}
+use Rattle.files.specs.Seek.{seekOf}
+use Rattle.replay.specs.Records.{wordOf, signedOf}
+use Rattle.replay.specs.Files.{soughtTold, someHead, oneFile, seekEqual}
+
+pub head-none : (size : ℕ) → size ≡ 0 → nullBlock ≡ someHead size
+unfolding someHead
+head-none size h = rw (someHead, eq-eqb size 0 h)
+
+pub head-some : (size : ℕ) → (size ≡ 0 → ⊥) → 3 ≡ someHead size
+unfolding someHead
+head-some size h = rw (someHead, ne-eqb size 0 h)
+
+-- the first slot of the table of no files, filled
+pub one-file : (t : Table) (size head : ℕ) → t ≡ tableOf [] → head ≡ someHead size
+    → record { files = set (t .files) 0 (record { number = 7; size = size; head = head }); count = 1 } ≡ oneFile size
+one-file t size head e h = rw (e, h)
+
+-- the signed arguments come back from their bits
+pub seek-is : (list : List ℕ) (at size p x y : ℕ) (offset whence : ℤ) (t : Table) (s : Sought) (r : Bool) → size ≡ wordOf list at 4 → p ≡ wordOf list at 5 → x ≡ wordOf list at 6
+    → y ≡ wordOf list at 7
+    → mag offset < 2147483648
+    → offset ≡ signedOf x
+    → mag whence < 2147483648
+    → whence ≡ signedOf y
+    → t ≡ oneFile size
+    → s ≡ seekOf t 7 p (toZ w32 (ofZ w32 offset)) (toZ w32 (ofZ w32 whence))
+    → r ≡ soughtTold list at s
+    → r ≡ seekEqual list at
+unfolding seekEqual
+seek-is list at size p x y offset whence t s r a b c d i o j w f e q =
+    let k : SFits w32 offset = record { sfits = i } in
+    let l : SFits w32 whence = record { sfits = j } in
+    q ∙ rw (seekEqual, e, toZ-ofZ k, toZ-ofZ l, f, o, w, a, b, c, d)
