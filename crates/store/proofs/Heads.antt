@@ -11,7 +11,6 @@ use Rattle.layout.specs.Layout.{indexAt, offsetAt, start}
 use Rattle.layout.specs.Place.{Served}
 use Rattle.layout.proofs.Places.{index-mono}
 use Rattle.layout.proofs.Served.{served, index-in, index-found}
-use Rattle.ctz.specs.declared.Found.{Found}
 use Rattle.store.specs.declared.old.Looked.the-variants as looked-as
 use Rattle.store.specs.Write.{Look, starts, looked, firstHead}
 use Rattle.store.specs.Lookups.{lookedOf, keptWanted, tailWanted, keptOf}
