@@ -5,8 +5,8 @@ use mathlib.Core.List.{List}
 use Prim.Native.Nat.{ℕ}
 use lib.IntN.{pos, negsuc}
 use Rattle.files.specs.declared.Table.{Table}
-use Rattle.files.specs.declared.Change.{Change}
-use Rattle.files.specs.declared.Change.the-variants as change
+use Rattle.files.specs.declared.change.Change.{Change}
+use Rattle.files.specs.declared.change.Change.the-variants as change
 use Rattle.files.specs.Change.{changed}
 use Rattle.files.proofs.Kept.{create-cases, remove-cases}
 use Rattle.store.specs.declared.Outcome.the-variants as outcome

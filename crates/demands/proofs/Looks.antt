@@ -14,7 +14,7 @@ use Rattle.files.specs.declared.Table.{Table}
 use Rattle.files.specs.declared.Found.{Found}
 use Rattle.files.specs.declared.Found.the-variants as found
 use Rattle.files.specs.declared.Sized.the-variants as sized
-use Rattle.files.specs.declared.Sought.the-variants as sought
+use Rattle.files.specs.declared.position.Sought.the-variants as sought
 use Rattle.files.specs.Table.{numberMax, sizeMax, held, file}
 use Rattle.files.specs.Find.{findOf, sizeOf}
 use Rattle.files.specs.Seek.{whenceOf, seekOf}

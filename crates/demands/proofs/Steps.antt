@@ -12,7 +12,7 @@ use Rattle.files.specs.declared.Entry.{Entry}
 use Rattle.files.specs.declared.Table.{Table}
 use Rattle.files.specs.declared.Found.{Found}
 use Rattle.files.specs.declared.Found.the-variants as found
-use Rattle.files.specs.declared.Changed.{Changed}
+use Rattle.files.specs.declared.change.Changed.{Changed}
 use Rattle.files.specs.Table.{filesMax, held, tableOf, tableOk}
 use Rattle.files.specs.Find.{findOf}
 use Rattle.files.specs.Change.{createOf, removeOf, insertOf, withoutOf}

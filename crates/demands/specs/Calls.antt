@@ -3,7 +3,7 @@ use mathlib.Core.List.{List}
 use Prim.Native.Nat.{ℕ}
 use lib.IntN.{ℤ, pos}
 use Rattle.files.specs.declared.Table.{Table}
-use Rattle.files.specs.declared.Changed.{Changed}
+use Rattle.files.specs.declared.change.Changed.{Changed}
 use Rattle.files.specs.Change.{createOf, removeOf, changeCode}
 use Rattle.window.specs.declared.Lookahead.{Lookahead}
 use Rattle.store.specs.Store.{StoreOut, storeWrite, storeTruncate, outcomeCode}

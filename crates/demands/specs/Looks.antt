@@ -9,8 +9,8 @@ use lib.Seq.{sets}
 use Rattle.layout.specs.Layout.{offsetAt}
 use Rattle.files.specs.declared.Sized.{Sized}
 use Rattle.files.specs.declared.Sized.the-variants as sized
-use Rattle.files.specs.declared.Sought.{Sought}
-use Rattle.files.specs.declared.Sought.the-variants as sought
+use Rattle.files.specs.declared.position.Sought.{Sought}
+use Rattle.files.specs.declared.position.Sought.the-variants as sought
 use Rattle.files.specs.Table.{sizeMax}
 use Rattle.files.specs.Seek.{whenceOf}
 use Rattle.reading.specs.declared.Reading.the-variants as reading

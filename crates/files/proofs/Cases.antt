@@ -15,8 +15,8 @@ use Rattle.files.specs.declared.Table.{Table}
 use Rattle.files.specs.declared.Found.{Found}
 use Rattle.files.specs.declared.Found.the-variants as found
 use Rattle.files.specs.declared.Sized.the-variants as sized
-use Rattle.files.specs.declared.Change.the-variants as change
-use Rattle.files.specs.declared.Sought.the-variants as sought
+use Rattle.files.specs.declared.change.Change.the-variants as change
+use Rattle.files.specs.declared.position.Sought.the-variants as sought
 use Rattle.files.specs.Table.{filesMax, numberMax, sizeMax, noEntry, held, file, tableOf, tableOk}
 use Rattle.files.specs.Find.{searchOf, findOf, sizeOf}
 use Rattle.files.specs.Change.{emptyFile, placeOf, insertOf, withoutOf, changed, createOf, removeOf}

@@ -5,8 +5,8 @@ use Prim.Native.Nat.{ℕ, zero, suc}
 use lib.IntN.{pos, negsuc}
 use Rattle.files.specs.declared.Entry.{Entry}
 use Rattle.files.specs.declared.Table.{Table}
-use Rattle.files.specs.declared.Change.the-variants as change
-use Rattle.files.specs.declared.Sought.the-variants as sought
+use Rattle.files.specs.declared.change.Change.the-variants as change
+use Rattle.files.specs.declared.position.Sought.the-variants as sought
 use Rattle.files.specs.Table.{filesMax, headOk, entryOk, filesOk, tableOf, tableOk}
 use Rattle.files.specs.Find.{searchOf, findOf}
 use Rattle.files.specs.Change.{emptyFile, createOf}

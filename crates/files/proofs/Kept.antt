@@ -13,9 +13,9 @@ use Rattle.files.specs.declared.Found.{Found}
 use Rattle.files.specs.declared.Found.the-variants as found
 use Rattle.files.specs.declared.Sized.{Sized}
 use Rattle.files.specs.declared.Sized.the-variants as sized
-use Rattle.files.specs.declared.Change.{Change}
-use Rattle.files.specs.declared.Change.the-variants as change
-use Rattle.files.specs.declared.Changed.{Changed}
+use Rattle.files.specs.declared.change.Change.{Change}
+use Rattle.files.specs.declared.change.Change.the-variants as change
+use Rattle.files.specs.declared.change.Changed.{Changed}
 use Rattle.files.specs.Table.{filesMax, numberMax, noEntry, held, file, tableOf, tableOk}
 use Rattle.files.specs.Find.{findOf, sizeOf}
 use Rattle.files.specs.Change.{emptyFile, placeOf, insertOf, withoutOf, changed, createOf, removeOf}

@@ -10,7 +10,7 @@ use mir.Syntax.{w32, w64}
 use mir.Val.{Fits, SFits, toZ, ofZ}
 use mir.Facts.{toZ-ofZ, toZ-pos}
 use borrow.Author.Tests.{le-leb, lt-leb, ltb-true, ltb-false}
-use Rattle.files.specs.declared.Sought.the-variants as sought
+use Rattle.files.specs.declared.position.Sought.the-variants as sought
 use Rattle.files.specs.Table.{sizeMax}
 use Rattle.files.specs.Seek.{withinOf, whenceOf}
 use Rattle.files.proofs.Tests.{ltb-cases}

@@ -7,7 +7,7 @@ use lib.IntN.{ℤ, pos, negsuc, _+ℤ_}
 use borrow.Author.Tests.{le-leb, lt-leb}
 use Rattle.files.specs.declared.Table.{Table}
 use Rattle.files.specs.declared.Found.the-variants as found
-use Rattle.files.specs.declared.Sought.the-variants as sought
+use Rattle.files.specs.declared.position.Sought.the-variants as sought
 use Rattle.files.specs.Table.{sizeMax, file}
 use Rattle.files.specs.Find.{findOf}
 use Rattle.files.specs.Seek.{withinOf, whenceOf, seekOf}

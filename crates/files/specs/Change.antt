@@ -10,9 +10,9 @@ use lib.IntN.{ℤ, pos, negsuc}
 use Rattle.files.specs.declared.Entry.{Entry}
 use Rattle.files.specs.declared.Table.{Table}
 use Rattle.files.specs.declared.Found.the-variants as found
-use Rattle.files.specs.declared.Change.{Change}
-use Rattle.files.specs.declared.Change.the-variants as change
-use Rattle.files.specs.declared.Changed.{Changed}
+use Rattle.files.specs.declared.change.Change.{Change}
+use Rattle.files.specs.declared.change.Change.the-variants as change
+use Rattle.files.specs.declared.change.Changed.{Changed}
 use Rattle.files.specs.Table.{filesMax, nullBlock, held, file, tableOf}
 use Rattle.files.specs.Find.{findOf}
 

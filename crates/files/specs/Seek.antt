@@ -5,8 +5,8 @@ use lib.Dec.{leb}
 use lib.IntN.{ℤ, pos, negsuc, _+ℤ_}
 use Rattle.files.specs.declared.Table.{Table}
 use Rattle.files.specs.declared.Found.the-variants as found
-use Rattle.files.specs.declared.Sought.{Sought}
-use Rattle.files.specs.declared.Sought.the-variants as sought
+use Rattle.files.specs.declared.position.Sought.{Sought}
+use Rattle.files.specs.declared.position.Sought.the-variants as sought
 use Rattle.files.specs.Table.{file, sizeMax}
 use Rattle.files.specs.Find.{findOf}
 

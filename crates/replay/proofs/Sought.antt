@@ -11,7 +11,7 @@ use mir.Val.{SFits, toZ, ofZ}
 use mir.Facts.{toZ-ofZ}
 use borrow.Author.Tests.{eq-eqb, ne-eqb}
 use Rattle.files.specs.declared.Table.{Table}
-use Rattle.files.specs.declared.Sought.{Sought}
+use Rattle.files.specs.declared.position.Sought.{Sought}
 use Rattle.files.specs.Table.{nullBlock, tableOf}
 use Rattle.files.specs.Seek.{seekOf}
 use Rattle.replay.specs.Records.{wordOf, signedOf}

@@ -4,8 +4,8 @@ use mathlib.Core.List.{List, [], _∷_}
 use Prim.Native.Nat.{ℕ}
 use lib.Dec.{eqb}
 use Rattle.files.specs.declared.Table.{Table}
-use Rattle.files.specs.declared.Sought.{Sought}
-use Rattle.files.specs.declared.Sought.the-variants as sought
+use Rattle.files.specs.declared.position.Sought.{Sought}
+use Rattle.files.specs.declared.position.Sought.the-variants as sought
 use Rattle.files.specs.Table.{nullBlock, tableOf}
 use Rattle.files.specs.Seek.{seekOf}
 use Rattle.replay.specs.Records.{wordOf, signedOf}

@@ -14,8 +14,8 @@ use ctz::visit::Begun;
 use ctz::visit::Step;
 use ctz::visit::Visit;
 use files::Entry;
-use files::Sought;
 use files::Table;
+use files::position::Sought;
 use grow::Growth;
 use layout::Geometry;
 use layout::Place;
@@ -233,7 +233,7 @@ fn one_file(size: u32) -> Table
 pub fn seek(list: &[u8], at: usize) -> bool
     ensures { λ r. ⌜ r ≡ seekEqual (now (list .entry)) at ⌝ }
 {
-    let sought = files::seek(
+    let sought = files::position::seek(
         one_file(word(list, at, 4)),
         7,
         word(list, at, 5),

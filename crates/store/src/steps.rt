@@ -53,7 +53,7 @@ pub fn finish(t: Table, i: u32, wrote: Wrote) -> Stored
         Writing::Written { head, size } => Stored {
             answer: Outcome::Done,
             window: w,
-            table: files::put(t, i, size, head),
+            table: files::change::put(t, i, size, head),
         },
         Writing::NoRoom => left(Outcome::Full, w, t),
         Writing::Corrupt => left(Outcome::Damaged, w, t),
@@ -69,7 +69,7 @@ pub fn shrink(b: u32, n: u32, image: &[u8], w: Lookahead, t: Table, i: u32, size
         return Stored {
             answer: Outcome::Done,
             window: w,
-            table: files::put(t, i, 0, Geometry::NULL),
+            table: files::change::put(t, i, 0, Geometry::NULL),
         };
     }
     let e = t.files[i as usize];
@@ -82,7 +82,7 @@ pub fn shrink(b: u32, n: u32, image: &[u8], w: Lookahead, t: Table, i: u32, size
         } => Stored {
             answer: Outcome::Done,
             window: w,
-            table: files::put(t, i, size, block),
+            table: files::change::put(t, i, size, block),
         },
         ctz::Found::Damaged => left(Outcome::Damaged, w, t),
         ctz::Found::Refused => left(Outcome::Damaged, w, t),

@@ -5,8 +5,8 @@ use Rattle.files.specs.Seek as seek
 use Rattle.saved.specs.Save as save
 use Rattle.saved.specs.Load as load
 use Rattle.files.specs.declared.Sized.{Sized}
-use Rattle.files.specs.declared.Changed.{Changed}
-use Rattle.files.specs.declared.Sought.{Sought}
+use Rattle.files.specs.declared.change.Changed.{Changed}
+use Rattle.files.specs.declared.position.Sought.{Sought}
 use Rattle.saved.specs.declared.Saved.{Saved}
 use Rattle.saved.specs.declared.Loaded.{Loaded}
 use Rattle.tidmaruls.specs.declared.tables.TidTable.{TidTable}

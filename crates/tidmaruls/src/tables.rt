@@ -1,9 +1,9 @@
 // The file table: create, remove, size, seek, and its saved form.
-use files::Change;
-use files::Changed;
 use files::Sized;
-use files::Sought;
 use files::Table;
+use files::change::Change;
+use files::change::Changed;
+use files::position::Sought;
 use saved::Loaded;
 use saved::Loading;
 use saved::Saved;
@@ -56,7 +56,7 @@ fn changed_told(c: Changed) -> TidTable
 pub extern "C" fn tid_create(t: Table, number: u32) -> TidTable
     ensures { λ r. ⌜ r ≡ changedTold (createOf t number) ⌝ }
 {
-    changed_told(files::create(t, number))
+    changed_told(files::change::create(t, number))
 }
 
 // The table without a file.
@@ -64,7 +64,7 @@ pub extern "C" fn tid_create(t: Table, number: u32) -> TidTable
 pub extern "C" fn tid_remove(t: Table, number: u32) -> TidTable
     ensures { λ r. ⌜ r ≡ changedTold (removeOf t number) ⌝ }
 {
-    changed_told(files::remove(t, number))
+    changed_told(files::change::remove(t, number))
 }
 
 #[repr(C)]
@@ -127,7 +127,7 @@ pub extern "C" fn tid_seek(
 ) -> TidSeek
     ensures { λ r. ⌜ r ≡ soughtTold (seekOf t number position offset whence) ⌝ }
 {
-    sought_told(files::seek(t, number, position, offset, whence))
+    sought_told(files::position::seek(t, number, position, offset, whence))
 }
 
 // How many bytes a saved table took.

@@ -1,9 +1,9 @@
--- `files::remove` meets its contract, case by case of what find answered. Assumes nothing.
+-- `files::change::remove` meets its contract, case by case of what find answered. Assumes nothing.
 use mathlib.Core.Path.{sym, _∙_}
 use borrow.Author.Needs.{needs}
 use Rattle.files.proofs.Cases.{found-at, remove-done, remove-missing, remove-refused}
-use Rattle.files.proofs.remove.Statement.{statement}
-use Rattle.files.proofs.remove.Tie as tie
+use Rattle.files.proofs.change.remove.Statement.{statement}
+use Rattle.files.proofs.change.remove.Tie as tie
 
 find-requires : tie.Need-find-requires
 find-requires c κs = search needs

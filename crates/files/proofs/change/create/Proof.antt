@@ -1,9 +1,9 @@
--- `files::create` meets its contract, case by case of what find answered. Assumes nothing.
+-- `files::change::create` meets its contract, case by case of what find answered. Assumes nothing.
 use borrow.Author.Needs.{needs}
 use Rattle.files.proofs.Lists.{place-count}
 use Rattle.files.proofs.Cases.{missing-table, create-exists, create-full, create-refused, create-done}
-use Rattle.files.proofs.create.Statement.{statement}
-use Rattle.files.proofs.create.Tie as tie
+use Rattle.files.proofs.change.create.Statement.{statement}
+use Rattle.files.proofs.change.create.Tie as tie
 
 find-requires : tie.Need-find-requires
 find-requires c κs = search needs

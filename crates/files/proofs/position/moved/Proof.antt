@@ -1,8 +1,8 @@
--- `files::moved` meets its contract: the sum fits 64 bits, and is tested against both limits. Assumes nothing.
+-- `files::position::moved` meets its contract: the sum fits 64 bits, and is tested against both limits. Assumes nothing.
 use borrow.Author.Needs.{needs}
 use Rattle.files.proofs.Seeking.{offset-fits, sum-fits, moved-below, moved-above, moved-at, moved-fits, moved-answer}
-use Rattle.files.proofs.moved.Statement.{statement}
-use Rattle.files.proofs.moved.Tie as tie
+use Rattle.files.proofs.position.moved.Statement.{statement}
+use Rattle.files.proofs.position.moved.Tie as tie
 
 cast-sum : tie.Need-cast-sum
 cast-sum c = search needs

@@ -1,12 +1,12 @@
--- `files::with_file` meets its contract: the files before, the empty file, the files from there on. Assumes nothing.
+-- `files::change::with_file` meets its contract: the files before, the empty file, the files from there on. Assumes nothing.
 use mathlib.Core.Path.{ap, _∙_}
 use native.Mathlib.Omega.{arith}
 use borrow.Author.Needs.{needs}
 use Rattle.files.specs.declared.Table.{Table}
 use Rattle.files.proofs.Laws.{slots-ok}
 use Rattle.files.proofs.Lists.{with-file}
-use Rattle.files.proofs.with_file.Statement.{statement}
-use Rattle.files.proofs.with_file.Tie as tie
+use Rattle.files.proofs.change.with_file.Statement.{statement}
+use Rattle.files.proofs.change.with_file.Tie as tie
 
 empty-requires : tie.Need-empty-requires
 empty-requires c κs = search needs

@@ -1,4 +1,4 @@
--- `files::without_file` meets its contract: the files before, and those past it. Assumes nothing.
+-- `files::change::without_file` meets its contract: the files before, and those past it. Assumes nothing.
 use mathlib.Core.Path.{ap, _∙_}
 use native.Mathlib.Omega.{arith}
 use native.Mathlib.Nat.{le-of-lt}
@@ -6,8 +6,8 @@ use borrow.Author.Needs.{needs}
 use Rattle.files.specs.declared.Table.{Table}
 use Rattle.files.proofs.Laws.{slots-ok, count-ok}
 use Rattle.files.proofs.Lists.{without-file, first-count}
-use Rattle.files.proofs.without_file.Statement.{statement}
-use Rattle.files.proofs.without_file.Tie as tie
+use Rattle.files.proofs.change.without_file.Statement.{statement}
+use Rattle.files.proofs.change.without_file.Tie as tie
 
 empty-requires : tie.Need-empty-requires
 empty-requires c κs = search needs

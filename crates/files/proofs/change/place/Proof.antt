@@ -1,4 +1,4 @@
--- `files::place` meets its contract. The invariant: the files passed, and those before the number among the rest. Assumes nothing.
+-- `files::change::place` meets its contract. The invariant: the files passed, and those before the number among the rest. Assumes nothing.
 use mathlib.Core.Path.{_≡_, sym, _∙_}
 use Prim.Native.Nat.{_+_, _-_, _≤_}
 use native.Mathlib.Omega.{arith}
@@ -9,8 +9,8 @@ use Rattle.files.specs.Table.{filesMax}
 use Rattle.files.specs.Change.{placeOf}
 use Rattle.files.proofs.Laws.{slots-ok, count-ok}
 use Rattle.files.proofs.Turns.{place-here, place-on, place-end}
-use Rattle.files.proofs.place.Statement.{statement}
-use Rattle.files.proofs.place.Tie as tie
+use Rattle.files.proofs.change.place.Statement.{statement}
+use Rattle.files.proofs.change.place.Tie as tie
 
 abbrev Inv-loop : tie.InvT-loop
 Inv-loop number t count i₀ i =

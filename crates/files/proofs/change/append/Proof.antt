@@ -1,4 +1,4 @@
--- `files::append` meets its contract. The invariant: all the stores are those still to be made on what is there. Assumes nothing.
+-- `files::change::append` meets its contract. The invariant: all the stores are those still to be made on what is there. Assumes nothing.
 use mathlib.Core.Path.{_≡_, refl, _∙_}
 use Prim.Native.Nat.{_+_, _-_, _≤_}
 use native.Mathlib.Omega.{arith}
@@ -7,8 +7,8 @@ use lib.ListN.{length}
 use lib.Seq.{slice, sets}
 use Rattle.files.specs.Table.{filesMax}
 use Rattle.files.proofs.Turns.{append-on, append-end}
-use Rattle.files.proofs.append.Statement.{statement}
-use Rattle.files.proofs.append.Tie as tie
+use Rattle.files.proofs.change.append.Statement.{statement}
+use Rattle.files.proofs.change.append.Tie as tie
 
 abbrev Inv-loop : tie.InvT-loop
 Inv-loop from to t v₀ n₀ i₀ v n i =
