@@ -10,10 +10,10 @@ use Rattle.files.specs.declared.Entry.{Entry}
 use Rattle.files.specs.declared.Table.{Table}
 use Rattle.files.specs.Table.{filesMax, numberMax, sizeMax, headMax, noEntry, tableOf}
 use Rattle.files.specs.Change.{emptyFile}
-use Rattle.saved.specs.declared.NumberRead.{NumberRead}
-use Rattle.saved.specs.declared.NumberRead.the-variants as number
-use Rattle.saved.specs.declared.EntryRead.{EntryRead}
-use Rattle.saved.specs.declared.EntryRead.the-variants as entry
+use Rattle.saved.specs.declared.read.NumberRead.{NumberRead}
+use Rattle.saved.specs.declared.read.NumberRead.the-variants as number
+use Rattle.saved.specs.declared.read.EntryRead.{EntryRead}
+use Rattle.saved.specs.declared.read.EntryRead.the-variants as entry
 use Rattle.saved.specs.declared.Loading.the-variants as loading
 use Rattle.saved.specs.declared.Loaded.{Loaded}
 use Rattle.saved.specs.Groups.{Reading, damaged, read, readUpTo}

@@ -11,8 +11,8 @@ use lib.Seq.{drop-cons}
 use lib.Dec.{ltb, leb, eqb}
 use borrow.Author.Tests.{lt-ltb, le-ltb, le-leb, lt-leb, eq-eqb, ne-eqb}
 use Rattle.files.proofs.Tests.{eqb-cases, leb-cases, bool-cases}
-use Rattle.saved.specs.declared.NumberRead.{NumberRead}
-use Rattle.saved.specs.declared.NumberRead.the-variants as number
+use Rattle.saved.specs.declared.read.NumberRead.{NumberRead}
+use Rattle.saved.specs.declared.read.NumberRead.the-variants as number
 use Rattle.saved.specs.Groups.{Reading, damaged, read, more, readNumber, upTo, readUpTo}
 use Rattle.saved.specs.Inner.{Scaled, lastOf, numberTold, numberNext, NumberPost}
 use Rattle.saved.proofs.Numbers.{read-last, read-more, more-some, more-none}

@@ -6,10 +6,10 @@ use Prim.Native.Nat.{ℕ, _+_, _*_, _≤_, _<_, _^_}
 use lib.ListN.{length, drop}
 use lib.Dec.{ltb, leb, eqb}
 use Rattle.files.specs.declared.Entry.{Entry}
-use Rattle.saved.specs.declared.NumberRead.{NumberRead}
-use Rattle.saved.specs.declared.NumberRead.the-variants as number
-use Rattle.saved.specs.declared.EntryRead.{EntryRead}
-use Rattle.saved.specs.declared.EntryRead.the-variants as entry
+use Rattle.saved.specs.declared.read.NumberRead.{NumberRead}
+use Rattle.saved.specs.declared.read.NumberRead.the-variants as number
+use Rattle.saved.specs.declared.read.EntryRead.{EntryRead}
+use Rattle.saved.specs.declared.read.EntryRead.the-variants as entry
 use Rattle.saved.specs.Groups.{Reading, damaged, read, readUpTo}
 use Rattle.saved.specs.Load.{readEntry}
 

@@ -1,7 +1,7 @@
--- `saved::damaged_load` meets its contract. Assumes nothing.
+-- `saved::read::damaged_load` meets its contract. Assumes nothing.
 use borrow.Author.Needs.{needs}
-use Rattle.saved.proofs.damaged_load.Statement.{statement}
-use Rattle.saved.proofs.damaged_load.Tie as tie
+use Rattle.saved.proofs.read.damaged_load.Statement.{statement}
+use Rattle.saved.proofs.read.damaged_load.Tie as tie
 
 empty-requires : tie.Need-empty-requires
 empty-requires c κs = search needs

@@ -1,11 +1,11 @@
--- `saved::read_files` meets its contract. The invariant: the files read so far are in the slots, and the rest of the bytes is still to be read. Assumes nothing.
+-- `saved::read::read_files` meets its contract. The invariant: the files read so far are in the slots, and the rest of the bytes is still to be read. Assumes nothing.
 use mathlib.Core.Path.{_∙_}
 use Prim.Native.Nat.{_-_}
 use native.Mathlib.Omega.{arith}
 use borrow.Author.Needs.{needs}
 use Rattle.saved.proofs.Files.{entry-small, Filled, filled-start, filled-damaged, filled-turn, filled-trailing, filled-done}
-use Rattle.saved.proofs.read_files.Statement.{statement}
-use Rattle.saved.proofs.read_files.Tie as tie
+use Rattle.saved.proofs.read.read_files.Statement.{statement}
+use Rattle.saved.proofs.read.read_files.Tie as tie
 
 abbrev Inv-loop : tie.InvT-loop
 Inv-loop bytes at count u₀ least₀ p₀ i₀ u least p i = Filled bytes at count (u .files) least p i

@@ -1,10 +1,10 @@
--- `saved::write_entry` meets its contract: number, size, and the head unless the size is 0. Assumes nothing.
+-- `saved::write::write_entry` meets its contract: number, size, and the head unless the size is 0. Assumes nothing.
 use native.Mathlib.Omega.{arith}
 use borrow.Author.Needs.{needs}
 use Rattle.saved.proofs.Steps.{entry-parts, length-some}
 use Rattle.saved.proofs.Stores.{entry-none, entry-some}
-use Rattle.saved.proofs.write_entry.Statement.{statement}
-use Rattle.saved.proofs.write_entry.Tie as tie
+use Rattle.saved.proofs.write.write_entry.Statement.{statement}
+use Rattle.saved.proofs.write.write_entry.Tie as tie
 
 write-number-requires : tie.Need-write-number-requires
 write-number-requires c κs = omega (arith, c .before .before .pre, entry-parts (c .before .before .args .e))

@@ -1,4 +1,4 @@
--- `saved::read_number` meets its contract. The invariant: the number is what the groups so far are worth and the rest adds. Assumes nothing.
+-- `saved::read::read_number` meets its contract. The invariant: the number is what the groups so far are worth and the rest adds. Assumes nothing.
 use mathlib.Core.Path.{_≡_}
 use Prim.Native.Nat.{zero, _-_, _<_, _^_}
 use native.Mathlib.Omega.{arith}
@@ -7,8 +7,8 @@ use lib.ListN.{length, drop}
 use Rattle.saved.specs.Groups.{readNumber, upTo, readUpTo}
 use Rattle.saved.specs.Inner.{Scaled}
 use Rattle.saved.proofs.Scaling.{join, start-is, group-fits, group-below, number-turn, number-last, number-over, number-end}
-use Rattle.saved.proofs.read_number.Statement.{statement}
-use Rattle.saved.proofs.read_number.Tie as tie
+use Rattle.saved.proofs.read.read_number.Statement.{statement}
+use Rattle.saved.proofs.read.read_number.Tie as tie
 
 abbrev Inv-loop : tie.InvT-loop
 Inv-loop bytes at limit value₀ scale₀ i₀ value scale i =

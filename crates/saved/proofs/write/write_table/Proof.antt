@@ -1,4 +1,4 @@
--- `saved::write_table` meets its contract. The invariant: all the stores are those still to be made on what is there. Assumes nothing.
+-- `saved::write::write_table` meets its contract. The invariant: all the stores are those still to be made on what is there. Assumes nothing.
 use mathlib.Core.Path.{_≡_, refl, _∙_}
 use Prim.Native.Nat.{_+_, _-_, _≤_}
 use native.Mathlib.Omega.{arith}
@@ -9,8 +9,8 @@ use Rattle.files.specs.Table.{filesMax}
 use Rattle.files.proofs.Laws.{slots-ok, count-ok}
 use Rattle.saved.specs.Save.{filesBytes}
 use Rattle.saved.proofs.Stores.{length-turn, files-turn, save-length, save-end}
-use Rattle.saved.proofs.write_table.Statement.{statement}
-use Rattle.saved.proofs.write_table.Tie as tie
+use Rattle.saved.proofs.write.write_table.Statement.{statement}
+use Rattle.saved.proofs.write.write_table.Tie as tie
 
 abbrev Inv-loop : tie.InvT-loop
 Inv-loop buffer₀ t count at₀ i₀ buffer at i =

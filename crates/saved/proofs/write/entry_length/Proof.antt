@@ -1,9 +1,9 @@
--- `saved::entry_length` meets its contract: number, size, and the head unless the size is 0. Assumes nothing.
+-- `saved::write::entry_length` meets its contract: number, size, and the head unless the size is 0. Assumes nothing.
 use native.Mathlib.Omega.{arith}
 use borrow.Author.Needs.{needs}
 use Rattle.saved.proofs.Steps.{counted-none, counted-some}
-use Rattle.saved.proofs.entry_length.Statement.{statement}
-use Rattle.saved.proofs.entry_length.Tie as tie
+use Rattle.saved.proofs.write.entry_length.Statement.{statement}
+use Rattle.saved.proofs.write.entry_length.Tie as tie
 
 number-length-requires : tie.Need-number-length-requires
 number-length-requires c κs = search needs

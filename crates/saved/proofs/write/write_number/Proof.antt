@@ -1,4 +1,4 @@
--- `saved::write_number` meets its contract. The invariant: all the stores are those still to be made on what is there. Assumes nothing.
+-- `saved::write::write_number` meets its contract. The invariant: all the stores are those still to be made on what is there. Assumes nothing.
 use mathlib.Core.Path.{_≡_, refl, sym, _∙_}
 use Prim.Native.Nat.{_+_, _≤_}
 use native.Mathlib.Omega.{arith}
@@ -7,8 +7,8 @@ use lib.Seq.{sets}
 use Rattle.saved.specs.Groups.{groups}
 use Rattle.saved.proofs.Numbers.{length-last, length-more}
 use Rattle.saved.proofs.Stores.{store-last, store-more}
-use Rattle.saved.proofs.write_number.Statement.{statement}
-use Rattle.saved.proofs.write_number.Tie as tie
+use Rattle.saved.proofs.write.write_number.Statement.{statement}
+use Rattle.saved.proofs.write.write_number.Tie as tie
 
 abbrev Inv-loop : tie.InvT-loop
 Inv-loop buffer₀ at n m₀ i₀ buffer m i =

@@ -1,8 +1,8 @@
--- `saved::read_entry` meets its contract: the number, the size, and the head unless the size is 0. Assumes nothing.
+-- `saved::read::read_entry` meets its contract: the number, the size, and the head unless the size is 0. Assumes nothing.
 use borrow.Author.Needs.{needs}
 use Rattle.saved.proofs.Files.{number-damaged, number-below, size-damaged, size-zero, head-damaged, head-there}
-use Rattle.saved.proofs.read_entry.Statement.{statement}
-use Rattle.saved.proofs.read_entry.Tie as tie
+use Rattle.saved.proofs.read.read_entry.Statement.{statement}
+use Rattle.saved.proofs.read.read_entry.Tie as tie
 
 read-number-requires : tie.Need-read-number-requires
 read-number-requires c κs = search needs

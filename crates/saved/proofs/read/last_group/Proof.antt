@@ -1,4 +1,4 @@
--- `saved::last_group` meets its contract: not long, then in range. Assumes nothing.
+-- `saved::read::last_group` meets its contract: not long, then in range. Assumes nothing.
 use mathlib.Core.Path.{_≡_}
 use mathlib.Core.Bool.{false, _&&_}
 use mathlib.Core.Logic.{⊎-elim}
@@ -6,8 +6,8 @@ use native.Mathlib.Omega.{arith}
 use borrow.Author.Needs.{needs}
 use lib.Dec.{ltb, eqb}
 use Rattle.saved.proofs.Scaling.{group-below, last-long, last-large, last-fits, not-long, is-one}
-use Rattle.saved.proofs.last_group.Statement.{statement}
-use Rattle.saved.proofs.last_group.Tie as tie
+use Rattle.saved.proofs.read.last_group.Statement.{statement}
+use Rattle.saved.proofs.read.last_group.Tie as tie
 
 returns : tie.Need-returns
 returns c = last-long _ _ _ _ _ (c .before .if1 .taken) (c .if2 .taken)

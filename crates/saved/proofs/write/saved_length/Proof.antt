@@ -1,4 +1,4 @@
--- `saved::saved_length` meets its contract. The invariant: the bytes counted and those of the files left are all. Assumes nothing.
+-- `saved::write::saved_length` meets its contract. The invariant: the bytes counted and those of the files left are all. Assumes nothing.
 use mathlib.Core.Path.{_≡_, refl, ap}
 use Prim.Native.Nat.{_+_, _-_, _*_, _≤_}
 use native.Mathlib.Omega.{arith}
@@ -9,8 +9,8 @@ use Rattle.files.specs.Table.{filesMax}
 use Rattle.files.proofs.Laws.{slots-ok, count-ok}
 use Rattle.saved.specs.Save.{filesBytes}
 use Rattle.saved.proofs.Stores.{length-turn, bytes-end, save-length}
-use Rattle.saved.proofs.saved_length.Statement.{statement}
-use Rattle.saved.proofs.saved_length.Tie as tie
+use Rattle.saved.proofs.write.saved_length.Statement.{statement}
+use Rattle.saved.proofs.write.saved_length.Tie as tie
 
 abbrev Inv-loop : tie.InvT-loop
 Inv-loop t count n₀ i₀ n i =
