@@ -16,12 +16,12 @@ use Rattle.audit.specs.Check as check
 use Rattle.audit.specs.declared.Fault.{Fault}
 use Rattle.audit.specs.declared.Checked.{Checked}
 use Rattle.audit.specs.declared.Checked.the-variants as checked
-use Rattle.tidmaruls.specs.declared.lists.TidIndex.{TidIndex}
-use Rattle.tidmaruls.specs.declared.lists.TidFind.{TidFind}
-use Rattle.tidmaruls.specs.declared.lists.TidPlace.{TidPlace}
-use Rattle.tidmaruls.specs.declared.lists.TidVisit.{TidVisit}
-use Rattle.tidmaruls.specs.declared.lists.TidStep.{TidStep}
-use Rattle.tidmaruls.specs.declared.lists.TidCheck.{TidCheck}
+use Rattle.tidmaruls.specs.declared.lookups.TidIndex.{TidIndex}
+use Rattle.tidmaruls.specs.declared.lookups.TidFind.{TidFind}
+use Rattle.tidmaruls.specs.declared.visits.TidPlace.{TidPlace}
+use Rattle.tidmaruls.specs.declared.visits.TidVisit.{TidVisit}
+use Rattle.tidmaruls.specs.declared.visits.TidStep.{TidStep}
+use Rattle.tidmaruls.specs.declared.check.TidCheck.{TidCheck}
 
 abbrev pub placeTold : Place → TidIndex
 placeTold p = record { code = place.codeOf p; index = place.indexOf p; offset = place.offsetOf p }

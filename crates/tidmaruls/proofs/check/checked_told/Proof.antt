@@ -1,9 +1,9 @@
--- `tidmaruls::lists::checked_told` meets its contract, case by case. Assumes nothing.
+-- `tidmaruls::check::checked_told` meets its contract, case by case. Assumes nothing.
 use mathlib.Core.Path.{ap, sym, _∙_}
 use Rattle.tidmaruls.specs.Lists.{checkedTold}
 use borrow.Author.Needs.{needs}
-use Rattle.tidmaruls.proofs.lists.checked_told.Statement.{statement}
-use Rattle.tidmaruls.proofs.lists.checked_told.Tie as tie
+use Rattle.tidmaruls.proofs.check.checked_told.Statement.{statement}
+use Rattle.tidmaruls.proofs.check.checked_told.Tie as tie
 
 enum-told : tie.Need-enum-told
 enum-told c = search needs

@@ -1,9 +1,9 @@
--- `tidmaruls::lists::place_told` meets its contract, case by case. Assumes nothing.
+-- `tidmaruls::lookups::place_told` meets its contract, case by case. Assumes nothing.
 use mathlib.Core.Path.{ap, sym}
 use Rattle.tidmaruls.specs.Lists.{placeTold}
 use borrow.Author.Needs.{needs}
-use Rattle.tidmaruls.proofs.lists.place_told.Statement.{statement}
-use Rattle.tidmaruls.proofs.lists.place_told.Tie as tie
+use Rattle.tidmaruls.proofs.lookups.place_told.Statement.{statement}
+use Rattle.tidmaruls.proofs.lookups.place_told.Tie as tie
 
 enum-known-p : tie.Need-enum-known-p
 enum-known-p c = search needs

@@ -1,7 +1,7 @@
--- `tidmaruls::lists::next_told` meets its contract. Assumes nothing.
+-- `tidmaruls::visits::next_told` meets its contract. Assumes nothing.
 use borrow.Author.Needs.{needs}
-use Rattle.tidmaruls.proofs.lists.next_told.Statement.{statement}
-use Rattle.tidmaruls.proofs.lists.next_told.Tie as tie
+use Rattle.tidmaruls.proofs.visits.next_told.Statement.{statement}
+use Rattle.tidmaruls.proofs.visits.next_told.Tie as tie
 
 bit-requires : tie.Need-bit-requires
 bit-requires c κs = search needs

@@ -1,9 +1,9 @@
--- `tidmaruls::lists::tid_index` meets its contract: what the inner call ensures, told. Assumes nothing.
+-- `tidmaruls::lookups::tid_index` meets its contract: what the inner call ensures, told. Assumes nothing.
 use mathlib.Core.Path.{ap, _∙_}
 use Rattle.tidmaruls.specs.Lists.{placeTold}
 use borrow.Author.Needs.{needs}
-use Rattle.tidmaruls.proofs.lists.tid_index.Statement.{statement}
-use Rattle.tidmaruls.proofs.lists.tid_index.Tie as tie
+use Rattle.tidmaruls.proofs.lookups.tid_index.Statement.{statement}
+use Rattle.tidmaruls.proofs.lookups.tid_index.Tie as tie
 
 ctz-index-requires : tie.Need-ctz-index-requires
 ctz-index-requires c κs = search needs

@@ -1,9 +1,9 @@
--- `tidmaruls::lists::tid_find` meets its contract: what the inner call ensures, told. Assumes nothing.
+-- `tidmaruls::lookups::tid_find` meets its contract: what the inner call ensures, told. Assumes nothing.
 use mathlib.Core.Path.{ap, _∙_}
 use Rattle.tidmaruls.specs.Lists.{foundTold}
 use borrow.Author.Needs.{needs}
-use Rattle.tidmaruls.proofs.lists.tid_find.Statement.{statement}
-use Rattle.tidmaruls.proofs.lists.tid_find.Tie as tie
+use Rattle.tidmaruls.proofs.lookups.tid_find.Statement.{statement}
+use Rattle.tidmaruls.proofs.lookups.tid_find.Tie as tie
 
 ctz-find-requires : tie.Need-ctz-find-requires
 ctz-find-requires c κs = search needs

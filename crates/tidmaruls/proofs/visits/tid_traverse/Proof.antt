@@ -1,9 +1,9 @@
--- `tidmaruls::lists::tid_traverse` meets its contract: the place as it is asked, and what the inner call ensures, told. Assumes nothing.
+-- `tidmaruls::visits::tid_traverse` meets its contract: the place as it is asked, and what the inner call ensures, told. Assumes nothing.
 use mathlib.Core.Path.{ap, _∙_}
 use Rattle.tidmaruls.specs.Lists.{stepTold}
 use borrow.Author.Needs.{needs}
-use Rattle.tidmaruls.proofs.lists.tid_traverse.Statement.{statement}
-use Rattle.tidmaruls.proofs.lists.tid_traverse.Tie as tie
+use Rattle.tidmaruls.proofs.visits.tid_traverse.Statement.{statement}
+use Rattle.tidmaruls.proofs.visits.tid_traverse.Tie as tie
 
 place-asked-requires : tie.Need-place-asked-requires
 place-asked-requires c κs = search needs

@@ -1,9 +1,9 @@
--- `tidmaruls::lists::fault_told` meets its contract, case by case. Assumes nothing.
+-- `tidmaruls::check::fault_told` meets its contract, case by case. Assumes nothing.
 use mathlib.Core.Path.{ap, sym}
 use Rattle.tidmaruls.specs.Lists.{faultTold}
 use borrow.Author.Needs.{needs}
-use Rattle.tidmaruls.proofs.lists.fault_told.Statement.{statement}
-use Rattle.tidmaruls.proofs.lists.fault_told.Tie as tie
+use Rattle.tidmaruls.proofs.check.fault_told.Statement.{statement}
+use Rattle.tidmaruls.proofs.check.fault_told.Tie as tie
 
 enum-known-f : tie.Need-enum-known-f
 enum-known-f c = search needs

@@ -1,9 +1,9 @@
--- `tidmaruls::lists::tid_check` meets its contract: what the inner call ensures, told. Assumes nothing.
+-- `tidmaruls::check::tid_check` meets its contract: what the inner call ensures, told. Assumes nothing.
 use mathlib.Core.Path.{ap, _∙_}
 use Rattle.tidmaruls.specs.Lists.{checkedTold}
 use borrow.Author.Needs.{needs}
-use Rattle.tidmaruls.proofs.lists.tid_check.Statement.{statement}
-use Rattle.tidmaruls.proofs.lists.tid_check.Tie as tie
+use Rattle.tidmaruls.proofs.check.tid_check.Statement.{statement}
+use Rattle.tidmaruls.proofs.check.tid_check.Tie as tie
 
 ctz-check-requires : tie.Need-ctz-check-requires
 ctz-check-requires c κs = search needs

@@ -1,9 +1,9 @@
--- `tidmaruls::lists::tid_visit` meets its contract: what the inner call ensures, told. Assumes nothing.
+-- `tidmaruls::visits::tid_visit` meets its contract: what the inner call ensures, told. Assumes nothing.
 use mathlib.Core.Path.{ap, _∙_}
 use Rattle.tidmaruls.specs.Lists.{begunTold}
 use borrow.Author.Needs.{needs}
-use Rattle.tidmaruls.proofs.lists.tid_visit.Statement.{statement}
-use Rattle.tidmaruls.proofs.lists.tid_visit.Tie as tie
+use Rattle.tidmaruls.proofs.visits.tid_visit.Statement.{statement}
+use Rattle.tidmaruls.proofs.visits.tid_visit.Tie as tie
 
 ctz-visit-requires : tie.Need-ctz-visit-requires
 ctz-visit-requires c κs = search needs

@@ -1,9 +1,9 @@
--- `tidmaruls::lists::found_told` meets its contract, case by case. Assumes nothing.
+-- `tidmaruls::lookups::found_told` meets its contract, case by case. Assumes nothing.
 use mathlib.Core.Path.{ap, sym}
 use Rattle.tidmaruls.specs.Lists.{foundTold}
 use borrow.Author.Needs.{needs}
-use Rattle.tidmaruls.proofs.lists.found_told.Statement.{statement}
-use Rattle.tidmaruls.proofs.lists.found_told.Tie as tie
+use Rattle.tidmaruls.proofs.lookups.found_told.Statement.{statement}
+use Rattle.tidmaruls.proofs.lookups.found_told.Tie as tie
 
 enum-known-f : tie.Need-enum-known-f
 enum-known-f c = search needs

@@ -1,9 +1,9 @@
--- `tidmaruls::lists::begun_told` meets its contract, case by case. Assumes nothing.
+-- `tidmaruls::visits::begun_told` meets its contract, case by case. Assumes nothing.
 use mathlib.Core.Path.{ap, sym}
 use Rattle.tidmaruls.specs.Lists.{begunTold}
 use borrow.Author.Needs.{needs}
-use Rattle.tidmaruls.proofs.lists.begun_told.Statement.{statement}
-use Rattle.tidmaruls.proofs.lists.begun_told.Tie as tie
+use Rattle.tidmaruls.proofs.visits.begun_told.Statement.{statement}
+use Rattle.tidmaruls.proofs.visits.begun_told.Tie as tie
 
 enum-told : tie.Need-enum-told
 enum-told c = search needs
