@@ -1,12 +1,13 @@
 // The reading calls of the store: read, and the stretch with its companion. Both see geometry, image, table, file number and position.
+mod copies;
+mod finding;
 mod list;
-mod passes;
+mod numbers;
 
 use files::Found;
 use files::Table;
 use layout::Geometry;
 ghost use mathlib.Core.Path.{_≡_};
-ghost use lib.ListN.{length};
 ghost use Rattle.reading.specs.Codes.{placeOf, placedLength};
 ghost use Rattle.reading.specs.Calls.{askedOf, readOf, stretchOf, stretchBytes};
 

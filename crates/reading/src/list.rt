@@ -1,31 +1,16 @@
 // Reading one list on a card: behind the tests of geometry, slice, table, file number and position.
 use crate::Placed;
 use crate::Reading;
+use crate::copies::copy_found;
+use crate::numbers::fitting;
+use crate::numbers::least;
+use crate::numbers::remaining;
 use ctz::Found;
 ghost use mathlib.Core.Path.{_≡_};
-ghost use Prim.Native.Nat.{_-_, min};
 ghost use lib.ListN.{length};
 ghost use Rattle.plain.specs.Reading.{readIn, stretchIn};
 ghost use Rattle.reading.specs.Bounds.{Listed};
 ghost use Rattle.reading.specs.Calls.{given, placedOf};
-
-// How many bytes a file has from a position on: none at or past the end.
-fn remaining(size: u32, pos: u32) -> u32
-    ensures { λ r. ⌜ r ≡ size - pos ⌝ }
-{
-    if size <= pos { 0 } else { size - pos }
-}
-
-// How many bytes go into a buffer with that much room.
-fn fitting(room: usize, left: u32) -> u32
-    ensures { λ r. ⌜ r ≡ min room left ⌝ }
-{
-    if room <= left as usize {
-        room as u32
-    } else {
-        left
-    }
-}
 
 // Read: every block touched is looked up before a byte is copied.
 pub fn read_in(
@@ -47,7 +32,7 @@ pub fn read_in(
     if count == 0 {
         return Reading::Bytes { length: 0 };
     }
-    if !crate::passes::copy_found(b, n, image, head, size, pos, count, buffer) {
+    if !copy_found(b, n, image, head, size, pos, count, buffer) {
         return Reading::Damaged;
     }
     Reading::Bytes { length: count }
@@ -72,7 +57,7 @@ pub fn place_in(b: u32, n: u32, image: &[u8], head: u32, size: u32, pos: u32) ->
             hops: _,
         } => Placed::Part {
             place: block * b + offset,
-            length: crate::passes::least(b - offset, size - pos),
+            length: least(b - offset, size - pos),
         },
         Found::Damaged => Placed::Damaged,
         Found::Refused => Placed::Refused,

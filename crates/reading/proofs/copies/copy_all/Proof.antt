@@ -11,8 +11,8 @@ use Rattle.plain.specs.Reading.{Got}
 use Rattle.reading.specs.Calls.{bytesOf}
 use Rattle.reading.proofs.Gathers.{all-none}
 use Rattle.reading.proofs.Copying.{Copying, begins, pointers-few, inside, turning, offset-less, turn, parted, copying-on}
-use Rattle.reading.proofs.passes.copy_all.Statement.{statement}
-use Rattle.reading.proofs.passes.copy_all.Tie as tie
+use Rattle.reading.proofs.copies.copy_all.Statement.{statement}
+use Rattle.reading.proofs.copies.copy_all.Tie as tie
 
 abbrev Inv-loop : tie.InvT-loop
 Inv-loop b n image head size pos count at blocks₀ buffer₀ top last first base₀ i₀ offset₀ p₀ left₀ to₀ blocks buffer base i offset p left to =

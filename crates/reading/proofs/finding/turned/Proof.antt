@@ -1,7 +1,7 @@
 -- `turned` hands back the index from which blocks are noted, where the block asked for is one of them. Assumes nothing.
 use borrow.Author.Needs.{needs}
-use Rattle.reading.proofs.passes.turned.Statement.{statement}
-use Rattle.reading.proofs.passes.turned.Tie as tie
+use Rattle.reading.proofs.finding.turned.Statement.{statement}
+use Rattle.reading.proofs.finding.turned.Tie as tie
 
 sub-if1 : tie.Need-sub-if1
 sub-if1 c = search needs

@@ -6,8 +6,8 @@ use borrow.Author.Needs.{needs}
 use borrow.Author.Tests.{not-true, not-false}
 use denote.Ref.{now}
 use Rattle.reading.proofs.Positions.{indexed, ordered, answered-lost, answered-short, answered-on}
-use Rattle.reading.proofs.passes.found_all.Statement.{statement}
-use Rattle.reading.proofs.passes.found_all.Tie as tie
+use Rattle.reading.proofs.finding.found_all.Statement.{statement}
+use Rattle.reading.proofs.finding.found_all.Tie as tie
 
 sub-index-at : tie.Need-sub-index-at
 sub-index-at c = search needs

@@ -13,8 +13,8 @@ use Rattle.reading.proofs.Gathers.{offset-below, never-refused, Step, s
 use Rattle.reading.proofs.Inner.{run-copied, run-damaged}
 use native.Mathlib.Omega.{arith}
 use borrow.Author.Needs.{needs}
-use Rattle.reading.proofs.passes.copy_found.Statement.{statement}
-use Rattle.reading.proofs.passes.copy_found.Tie as tie
+use Rattle.reading.proofs.copies.copy_found.Statement.{statement}
+use Rattle.reading.proofs.copies.copy_found.Tie as tie
 
 find-in-requires : tie.Need-find-in-requires
 find-in-requires c κs = search needs

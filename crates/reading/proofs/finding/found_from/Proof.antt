@@ -8,8 +8,8 @@ use borrow.Author.Tests.{not-true, not-false}
 use lib.ListN.{length}
 use Rattle.card.specs.Blocks.{pointer}
 use Rattle.reading.proofs.Runs.{Passed, passed-none, passed-more, passed-all, run-missed}
-use Rattle.reading.proofs.passes.found_from.Statement.{statement}
-use Rattle.reading.proofs.passes.found_from.Tie as tie
+use Rattle.reading.proofs.finding.found_from.Statement.{statement}
+use Rattle.reading.proofs.finding.found_from.Tie as tie
 
 abbrev Inv-loop : tie.InvT-loop
 Inv-loop b n image head top first last blocks₀ i₀ blocks i =

@@ -5,8 +5,8 @@ use borrow.Author.Needs.{needs}
 use denote.Ref.{now}
 use lib.Seq.{sets}
 use Rattle.reading.proofs.Parts.{lent-part}
-use Rattle.reading.proofs.passes.copy_part.Statement.{statement}
-use Rattle.reading.proofs.passes.copy_part.Tie as tie
+use Rattle.reading.proofs.copies.copy_part.Statement.{statement}
+use Rattle.reading.proofs.copies.copy_part.Tie as tie
 
 mul-start : tie.Need-mul-start
 mul-start c = search needs

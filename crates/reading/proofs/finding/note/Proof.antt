@@ -4,8 +4,8 @@ use native.Mathlib.Nat.{min-le-left, min-le-right}
 use native.Mathlib.Omega.{arith}
 use borrow.Author.Needs.{needs}
 use Rattle.reading.proofs.Runs.{noted}
-use Rattle.reading.proofs.passes.note.Statement.{statement}
-use Rattle.reading.proofs.passes.note.Tie as tie
+use Rattle.reading.proofs.finding.note.Statement.{statement}
+use Rattle.reading.proofs.finding.note.Tie as tie
 
 sub-least : tie.Need-sub-least
 sub-least c = search needs
