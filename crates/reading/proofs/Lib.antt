@@ -8,4 +8,5 @@ pub mod Outcomes
 pub mod Plain
 pub mod Runs
 pub mod Positions
+pub mod Answers
 pub mod Copying

@@ -5,7 +5,8 @@ use native.Mathlib.Omega.{arith}
 use borrow.Author.Needs.{needs}
 use borrow.Author.Tests.{not-true, not-false}
 use denote.Ref.{now}
-use Rattle.reading.proofs.Positions.{indexed, ordered, answered-lost, answered-short, answered-on}
+use Rattle.reading.proofs.Positions.{indexed, ordered}
+use Rattle.reading.proofs.Answers.{answered-lost, answered-short, answered-on}
 use Rattle.reading.proofs.finding.found_all.Statement.{statement}
 use Rattle.reading.proofs.finding.found_all.Tie as tie
 
