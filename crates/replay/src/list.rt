@@ -1,9 +1,10 @@
 // The list of answers, read in small steps. Past its end a word is 0 and a part is empty, so nothing is asked of the file.
 use files::Entry;
 use files::Table;
+use layout::Geometry;
 use window::Lookahead;
 ghost use mathlib.Core.Path.{_≡_};
-ghost use Rattle.replay.specs.Records.{wordOf, partOf, signedOf, mapOf, windowOf, tableAt};
+ghost use Rattle.replay.specs.Records.{wordOf, partOf, geometryOf, imageOf, signedOf, mapOf, windowOf, tableAt};
 
 // Word `k`, low byte first, of what stands at byte `at`.
 pub fn word(list: &[u8], at: usize, k: u32) -> u32
@@ -37,6 +38,23 @@ pub fn part<'a>(list: &'a [u8], at: usize, length: usize) -> &'a [u8]
         return &list[0..0];
     }
     &list[at..at + length]
+}
+
+// The geometry of a card: its first two words.
+pub fn geometry(list: &[u8], card: usize) -> Geometry
+    ensures { λ r. ⌜ r ≡ geometryOf (now (list .entry)) card ⌝ }
+{
+    Geometry {
+        block_size: word(list, card, 0),
+        block_count: word(list, card, 1),
+    }
+}
+
+// The image of a card: the place and the length of its bytes.
+pub fn image<'a>(list: &'a [u8], card: usize) -> &'a [u8]
+    ensures { λ r. ⌜ now r ≡ imageOf (now (list .entry)) card ⌝ }
+{
+    part(list, place(list, card, 3), place(list, card, 4))
 }
 
 // A word as a signed number.

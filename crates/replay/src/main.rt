@@ -2,8 +2,10 @@
 //
 // From byte 0 on the list has the place of the records of each kind, from byte 32 on their number; docs/DIFFERENCES.md says how it was made.
 mod agree;
-mod kinds;
+mod blocks;
 mod list;
+mod lists;
+mod seeks;
 
 use libc::STDOUT_FILENO;
 
@@ -16,13 +18,13 @@ struct Outcome {
 // Whether the record of this kind at this place is answered as the oracle did.
 fn equal(list: &[u8], kind: u32, at: usize) -> bool {
     match kind {
-        0 => kinds::index(list, at),
-        1 => kinds::find(list, at),
-        2 => kinds::visit(list, at),
-        3 => kinds::alloc(list, at),
-        4 => kinds::extend(list, at, false),
-        5 => kinds::extend(list, at, true),
-        6 => kinds::seek(list, at),
+        0 => lists::index(list, at),
+        1 => lists::find(list, at),
+        2 => lists::visit(list, at),
+        3 => blocks::alloc(list, at),
+        4 => blocks::extend(list, at, false),
+        5 => blocks::extend(list, at, true),
+        6 => seeks::seek(list, at),
         _ => false,
     }
 }
