@@ -16,6 +16,7 @@ use Rattle.grow.proofs.Grown.{Grows, extend-grows}
 use Rattle.store.specs.declared.block.Filled.{Filled}
 use Rattle.store.specs.declared.block.Filled.the-variants.{Done, Spoiled, Damaged}
 use Rattle.store.specs.declared.growths.Writing.the-variants as writing
+use Rattle.store.specs.declared.growths.Wrote.{Wrote}
 use Rattle.store.specs.Write.{Writing, Written, NoRoom, Corrupt, WriteOut, write-out, new}
 use Rattle.store.specs.Store.{lookIn, jobOf}
 use Rattle.store.specs.Fill.{fillOf, FillGives, Filling}
@@ -34,6 +35,9 @@ pub record Rest (B N l : ℕ) (health : List ℕ) (t : Table) (e : Entry) (pos :
 pub wrote : {o : WriteOut Lookahead} (a : Writing) (after : List ℕ) (v : Lookahead) → o ≡ write-out a after v
     → WroteGives o (record { answer = wroteOf a; window = v }) after
 wrote a after v e = rw e (record { answer = refl; window = refl; image = refl })
+
+pub wrote-as : {o : WriteOut Lookahead} {r s : Wrote} {after : List ℕ} → r ≡ s → WroteGives o s after → WroteGives o r after
+wrote-as e g = rw e g
 
 module _ {B N l : ℕ} {health : List ℕ} {t : Table} {e : Entry} {pos : ℕ} {src : List ℕ} {w₀ : Lookahead} {img₀ : List ℕ}
     (x : Putting B N l img₀ health t w₀ e pos src) where

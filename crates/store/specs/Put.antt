@@ -32,6 +32,9 @@ wroteOf (Written h s) = writing.Written h s
 wroteOf NoRoom = writing.NoRoom
 wroteOf Corrupt = writing.Corrupt
 
+abbrev pub endedOf : declared.Writing → Lookahead → Wrote
+endedOf a w = record { answer = a; window = w }
+
 -- r is the answer and the window, and `after` the image, that a definition gives
 pub record WroteGives (o : WriteOut Lookahead) (r : Wrote) (after : List ℕ) : Type 0 where
   pub answer : r .answer ≡ wroteOf (o .answer)

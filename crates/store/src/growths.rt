@@ -10,8 +10,9 @@ use files::Entry;
 use files::Table;
 use grow::Growth;
 use window::Lookahead;
+ghost use mathlib.Core.Path.{_≡_};
 ghost use Rattle.store.specs.Store.{puts};
-ghost use Rattle.store.specs.Put.{onFrom, WroteGives, Putting};
+ghost use Rattle.store.specs.Put.{endedOf, onFrom, WroteGives, Putting};
 
 // What a write gives, before the table changes.
 pub enum Writing {
@@ -25,6 +26,16 @@ pub enum Writing {
 pub struct Wrote {
     pub answer: Writing,
     pub window: Lookahead,
+}
+
+// What a write gives at its end.
+fn ended(answer: Writing, w: Lookahead) -> Wrote
+    ensures { λ r. ⌜ r ≡ endedOf answer w ⌝ }
+{
+    Wrote {
+        answer: answer,
+        window: w,
+    }
 }
 
 // The growths of a write from the list (head, size) on, each new block filled before the next growth.
@@ -66,37 +77,22 @@ fn write_on(
                     }
                     Filled::Spoiled => {}
                     Filled::Damaged => {
-                        return Wrote {
-                            answer: Writing::Corrupt,
-                            window: window,
-                        };
+                        return ended(Writing::Corrupt, window);
                     }
                 }
             }
             Growth::Full => {
-                return Wrote {
-                    answer: Writing::NoRoom,
-                    window: window,
-                };
+                return ended(Writing::NoRoom, window);
             }
             Growth::Damaged => {
-                return Wrote {
-                    answer: Writing::Corrupt,
-                    window: window,
-                };
+                return ended(Writing::Corrupt, window);
             }
             Growth::Refused => {
-                return Wrote {
-                    answer: Writing::Corrupt,
-                    window: window,
-                };
+                return ended(Writing::Corrupt, window);
             }
         }
     }
-    Wrote {
-        answer: Writing::Written { head: h, size: s },
-        window: window,
-    }
+    ended(Writing::Written { head: h, size: s }, window)
 }
 
 // A write of at least one byte, or a gap: the checkpoint, the lookups, then the growths.
@@ -125,14 +121,8 @@ pub fn put(
             if tail_looked(b, n, &image[..], e, pos + data.len() as u32) {
                 return write_on(b, n, l, image, health, t, v, e, pos, data, head, q);
             }
-            Wrote {
-                answer: Writing::Corrupt,
-                window: v,
-            }
+            ended(Writing::Corrupt, v)
         }
-        Looked::Lost => Wrote {
-            answer: Writing::Corrupt,
-            window: v,
-        },
+        Looked::Lost => ended(Writing::Corrupt, v),
     }
 }

@@ -1,5 +1,6 @@
 -- `store::growths::put` meets its contract: a block that is not found ends it, else the growths give what it gives. Assumes nothing.
 use Rattle.store.proofs.Puts.{putting-look, putting-on, put-lost, put-tailless, put-goes}
+use Rattle.store.proofs.Goes.{wrote-as}
 use borrow.Author.Needs.{needs}
 use native.Mathlib.Omega.{arith}
 use Rattle.store.proofs.growths.put.Statement.{statement}
@@ -39,33 +40,42 @@ same-length c = search needs
 
 returns : tie.Need-returns
 returns c =
-    let f = c .before .before .before .before .before .before .before .before in
-    put-goes (f .before .before .before .before .before .before .before .before .before .pre)
-    (f .before .before .before .before .before .alloc-ckpoint .ensures) (f .before .before .before .before .least .ensures)
-    (f .before .before .first-head .ensures) (f .first .given .1) (c .before .before .before .before .before .tail-looked .ensures)
-    (c .before .before .before .before .if1 .taken) (c .before .before .write-on .ensures)
+    let o = c .before .before in
+    let t = o .before .before .before in
+    let f = t .before .before .before .before .before in
+    let k = f .before .before .before in
+    put-goes (k .before .before .before .before .pre) (k .alloc-ckpoint .ensures) (f .before .before .least .ensures) (f .first-head .ensures)
+    (t .before .before .before .first .given .1) (t .tail-looked .ensures) (o .before .before .if1 .taken) (o .write-on .ensures)
+
+ended-requires : tie.Need-ended-requires
+ended-requires c κs = search needs
 
 enum-told : tie.Need-enum-told
 enum-told c = search needs
+
+ended-requires-2 : tie.Need-ended-requires-2
+ended-requires-2 c κs = search needs
 
 same-length-2 : tie.Need-same-length-2
 same-length-2 c = search needs
 
 returns-2 : tie.Need-returns-2
 returns-2 c =
-    let f = c .before .before .before .before .before .before in
-    put-tailless (f .before .before .before .before .before .before .before .pre) (f .before .before .before .alloc-ckpoint .ensures)
-    (f .before .before .least .ensures) (f .first-head .ensures) (c .before .before .before .before .first .given .1)
-    (c .before .tail-looked .ensures) (c .if1 .left)
+    let t = c .before .before in
+    let f = t .before .before .before .before .before in
+    let k = f .before .before .before in
+    wrote-as (c .ended .ensures) (put-tailless (k .before .before .before .before .pre) (k .alloc-ckpoint .ensures) (f .before .before .least .ensures)
+    (f .first-head .ensures) (t .before .before .before .first .given .1) (t .tail-looked .ensures) (c .before .if1 .left))
 
 same-length-3 : tie.Need-same-length-3
 same-length-3 c = search needs
 
 returns-3 : tie.Need-returns-3
 returns-3 c =
-    let f = c .before .before .before .before .before .before .before .before .before in
-    put-lost (f .pre) (c .before .before .before .before .before .alloc-ckpoint .ensures) (c .before .before .before .before .least .ensures)
-    (c .before .before .first-head .ensures) (c .enum-told .given .1)
+    let f = c .before .before .before in
+    let k = f .before .before .before in
+    wrote-as (c .ended2 .ensures) (put-lost (k .before .before .before .before .pre) (k .alloc-ckpoint .ensures) (f .before .before .least .ensures)
+    (f .first-head .ensures) (c .before .enum-told .given .1))
 
 pub put-spec : {M : Type 1} → statement M
 put-spec =
@@ -81,7 +91,9 @@ put-spec =
     write-on-requires
     same-length
     returns
+    ended-requires
     enum-told
+    ended-requires-2
     same-length-2
     returns-2
     same-length-3
