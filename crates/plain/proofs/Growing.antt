@@ -31,7 +31,3 @@ module _ {ptr : ℕ → ℕ → ℕ} {N head top : ℕ} (s : Sound ptr N head to
   unfolding link
   links-are w zero h = let e : top ≡ suc top - 2 ^ 0 = omega arith in sym (at-top ptr head top) ∙ ap blk e
   links-are w (suc x) h = ap (λ (b : ℕ). ptr b x) (links-are w x (omega arith)) ∙ next-pointer x h w
-
-  -- each is below N
-  pub links-below : suc top < 2 ^ 32 → (x : ℕ) → x ≤ ctz (suc top) → link ptr head x < N
-  links-below w x h = let p = pow-pos x in rw (links-are w x h) (s .below (suc top - 2 ^ x) (omega arith))

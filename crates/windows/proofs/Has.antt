@@ -45,9 +45,6 @@ pub else-false : (t : Bool) → (t ≡ true → ⊥) → t ≡ false
 else-false true h = absurd (h refl)
 else-false false h = refl
 
-pub no-true : (t : Bool) → t ≡ false → t ≡ true → ⊥
-no-true t p q = no-both t q p
-
 pub has-append : (xs ys : List ℕ) (b : ℕ) → has (xs ++ ys) b ≡ ((has xs b) || (has ys b))
 unfolding has
 has-append [] ys b = refl

@@ -1,7 +1,7 @@
 -- `copy_all` leaves the bytes of a clean run in the buffer from place `at` on. The invariant is `Copying`: what is left of the run, set behind
 -- what was copied, is the whole. Assumes nothing.
 use mathlib.Core.Path.{_≡_, sym, ap, _∙_}
-use Prim.Native.Nat.{ℕ, suc, _+_, _-_, _*_}
+use Prim.Native.Nat.{ℕ, suc, _+_, _*_}
 use native.Mathlib.Omega.{arith}
 use borrow.Author.Needs.{needs}
 use lib.Seq.{sets}
