@@ -1,8 +1,9 @@
 -- What the device's steps ask of their numbers.
+use mathlib.Core.Path.{_≡_}
 use mathlib.Core.Logic.{_⊎_}
 use mathlib.Core.List.{List}
 use Prim.Native.Nat.{ℕ, _+_, _*_, _≤_, _<_}
-use lib.ListN.{length}
+use lib.ListN.{length, getD}
 
 -- block k lies within the image and has a health byte
 pub record Block (B k : ℕ) (image health : List ℕ) : Type 0 where
@@ -20,3 +21,7 @@ pub record Source (B k o j p n : ℕ) (image : List ℕ) : Type 0 where
   pub within : j * B + B ≤ length image
   pub room : p + n ≤ B
   pub apart : (k * B + o ≤ j * B + p) ⊎ (j * B + p + n ≤ k * B + o)
+
+-- "Only erased blocks are programmed": n bytes of block k from offset o on are 0xFF
+pub record Blank (B k o n : ℕ) (image : List ℕ) : Type 0 where
+  pub erased : (i : ℕ) → i < n → getD image (k * B + (o + i)) 255 ≡ 255

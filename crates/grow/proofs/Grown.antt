@@ -1,18 +1,23 @@
 -- What a growth tells, on any card and list, damaged ones too: the window stays valid; a block that it answers is below N, with room
--- in it, and the checkpoint count fell. Assumes nothing.
+-- in it that is erased, and the checkpoint count fell. Assumes nothing.
 use mathlib.Core.Path.{_≡_, refl}
 use mathlib.Core.Bool.{Bool, true, false}
 use mathlib.Core.List.{List}
-use Prim.Native.Nat.{ℕ, zero, suc, _*_, _≤_, _<_}
+use Prim.Native.Nat.{ℕ, zero, suc, _+_, _-_, _*_, _≤_, _<_}
+use native.Mathlib.Nat.{min-le-left}
 use native.Mathlib.Omega.{arith}
 use lib.Dec.{ltb, eqb}
+use lib.ListN.{length, drop, length-take}
 use borrow.Author.Tests.{ltb-true, ltb-false, eqb-true, eqb-false}
 use Rattle.layout.specs.Layout.{pointers, indexAt, offsetAt}
 use Rattle.layout.specs.Place.{Sized}
 use Rattle.layout.proofs.Served.{wide}
 use Rattle.span.specs.Words.{bytes32}
+use Rattle.span.proofs.Words.{length-bytes32}
 use Rattle.card.specs.Blocks.{pointer}
+use Rattle.device.specs.Bounds.{Blank}
 use Rattle.device.specs.Device.{stored, wiped, refusesErase}
+use Rattle.device.proofs.Blanks.{blank-wiped, blank-part, blank-stored}
 use Rattle.files.specs.declared.Table.{Table}
 use Rattle.files.specs.Table.{sizeMax}
 use Rattle.window.specs.declared.Lookahead.{Lookahead}
@@ -25,42 +30,59 @@ use Rattle.alloc.specs.Visits.{seenIn}
 use Rattle.grow.specs.declared.Growth.{Growth}
 use Rattle.grow.specs.declared.Growth.the-variants.{Grown, Full, Damaged}
 use Rattle.grow.specs.Supply.{Block}
-use Rattle.grow.specs.Grow.{GrowOut, grow-out, pointersOf, linkOf, spoils, growOf}
+use Rattle.grow.specs.Grow.{GrowOut, grow-out, part, pointersOf, linkOf, spoils, growOf}
 use Rattle.grow.specs.Extend.{windowAlloc, extendIn, Extending}
 use Rattle.grow.proofs.Links.{link-empty, link-damaged, link-copied, link-pointers, link-rest, used-fits, next-room}
 use Rattle.grow.proofs.Turns.{grow-none, grow-bad, grow-kept, grow-spoiled, grow-linked}
 use Rattle.grow.proofs.Takes.{Outcome, allocated, took-block, took-none, took-bad, took-refused}
 
--- the ways of an answer that a link gives for block k: made, with room in the block, or -84
-pub data Ends (B k : ℕ) : Growth → Type 0 where
-  made : {off : ℕ} → off < B → Ends B k (Grown k off)
-  broken : Ends B k Damaged
+-- the ways of an answer that a link gives for block k, with its image: made, with erased room in the block, or -84
+pub data Ends (B k : ℕ) : Growth → List ℕ → Type 0 where
+  made : {off : ℕ} {img : List ℕ} → off < B → Blank B k off (B - off) img → Ends B k (Grown k off) img
+  broken : {img : List ℕ} → Ends B k Damaged img
 
-pointers-ends : {W : Type 0} (m B N k off x cur : ℕ) (img : List ℕ) (w : W) → off < B → Ends B k (pointersOf m B N k off x cur img w .answer)
+pointers-ends : {W : Type 0} (m B N k off x cur : ℕ) (img : List ℕ) (w : W) → off < B → off ≡ 4 * (x + m) → Blank B k (4 * x) (B - 4 * x) img
+    → Ends B k (pointersOf m B N k off x cur img w .answer) (pointersOf m B N k off x cur img w .image)
 unfolding pointersOf
-pointers-ends zero B N k off x cur img w h = made h
-pointers-ends (suc m) B N k off x cur img w h =
-    go (ltb cur N) refl (pointers-ends m B N k off (suc x) (pointer (stored B k (4 * x) (bytes32 cur) img) B cur x) (stored B k (4 * x) (bytes32 cur) img) w h)
+pointers-ends zero B N k off x cur img w h e b = made h (blank-part off (B - off) (omega arith) (omega arith) b)
+pointers-ends (suc m) B N k off x cur img w h e b =
+    go (ltb cur N) refl
+    (pointers-ends m B N k off (suc x) (pointer (stored B k (4 * x) (bytes32 cur) img) B cur x) (stored B k (4 * x) (bytes32 cur) img) w h (omega arith)
+    (blank-stored (4 * x) (bytes32 cur) (omega (arith, length-bytes32 cur)) (blank-part (4 * suc x) (B - 4 * suc x) (omega arith) (omega arith) b)))
   where
     go : (t : Bool) → ltb cur N ≡ t
-        → Ends B k (pointersOf m B N k off (suc x) (pointer (stored B k (4 * x) (bytes32 cur) img) B cur x) (stored B k (4 * x) (bytes32 cur) img) w .answer)
-        → Ends B k (pointersOf (suc m) B N k off x cur img w .answer)
+        → Ends B k
+        (pointersOf m B N k off (suc x) (pointer (stored B k (4 * x) (bytes32 cur) img) B cur x) (stored B k (4 * x) (bytes32 cur) img) w .answer)
+        (pointersOf m B N k off (suc x) (pointer (stored B k (4 * x) (bytes32 cur) img) B cur x) (stored B k (4 * x) (bytes32 cur) img) w .image)
+        → Ends B k (pointersOf (suc m) B N k off x cur img w .answer) (pointersOf (suc m) B N k off x cur img w .image)
     go true e ih = rw (pointersOf, e) ih
     go false e ih = rw (pointersOf, e) broken
 
-link-ends : {W : Type 0} (B N k head s : ℕ) (img : List ℕ) (w : W) → Sized B → s ≤ sizeMax → Ends B k (linkOf B N k head s img w .answer)
-link-ends B N k head zero img w z h = rw (link-empty B N k head img w) (made {off = 0} (omega (arith, wide z)))
-link-ends B N k head (suc p) img w z h = go (ltb head N) refl (eqb (suc (offsetAt B p)) B) refl
+part-short : (B f o n : ℕ) (img : List ℕ) → 0 + length (part B f o n img) ≤ n
+unfolding part
+part-short B f o n img = omega (arith, length-take n (drop (f * B + o) img), min-le-left n (length (drop (f * B + o) img)))
+
+-- in a block that is erased
+link-ends : {W : Type 0} (B N k head s : ℕ) (img : List ℕ) (w : W) → Sized B → s ≤ sizeMax → Blank B k 0 B img
+    → Ends B k (linkOf B N k head s img w .answer) (linkOf B N k head s img w .image)
+link-ends B N k head zero img w z h b =
+    rw (link-empty B N k head img w) (made {off = 0} (omega (arith, wide z)) (blank-part 0 (B - 0) (omega arith) (omega arith) b))
+link-ends B N k head (suc p) img w z h b = go (ltb head N) refl (eqb (suc (offsetAt B p)) B) refl
   where
-    go : (t : Bool) → ltb head N ≡ t → (f : Bool) → eqb (suc (offsetAt B p)) B ≡ f → Ends B k (linkOf B N k head (suc p) img w .answer)
+    go : (t : Bool) → ltb head N ≡ t → (f : Bool) → eqb (suc (offsetAt B p)) B ≡ f
+        → Ends B k (linkOf B N k head (suc p) img w .answer) (linkOf B N k head (suc p) img w .image)
     go false e f g = rw (link-damaged B N k head img w p (ltb-false head N e)) broken
     go true e true g =
         let u = eqb-true (suc (offsetAt B p)) B g in
         rw (link-pointers B N k head img w p (ltb-true head N e) u)
-        (pointers-ends (pointers (suc (indexAt B p))) B N k (4 * pointers (suc (indexAt B p))) 0 head img w (next-room z p h u))
+        (pointers-ends (pointers (suc (indexAt B p))) B N k (4 * pointers (suc (indexAt B p))) 0 head img w (next-room z p h u) (omega arith)
+        (blank-part (4 * 0) (B - 4 * 0) (omega arith) (omega arith) b))
     go true e false g =
         let u = eqb-false (suc (offsetAt B p)) B g in
-        rw (link-copied B N k head img w p (ltb-true head N e) u) (made {off = suc (offsetAt B p)} (omega (arith, used-fits z p h, u)))
+        let off = suc (offsetAt B p) in
+        let f = used-fits z p h in
+        rw (link-copied B N k head img w p (ltb-true head N e) u)
+        (made {off = off} (omega arith) (blank-stored 0 (part B head 0 off img) (part-short B head 0 off img) (blank-part off (B - off) (omega arith) (omega arith) b)))
 
 -- what a growth from that count leaves and tells
 pub record Grows (B N l count : ℕ) (o : GrowOut Lookahead) : Type 0 where
@@ -68,6 +90,7 @@ pub record Grows (B N l count : ℕ) (o : GrowOut Lookahead) : Type 0 where
   pub below : (k off : ℕ) → o .answer ≡ Grown k off → k < N
   pub room : (k off : ℕ) → o .answer ≡ Grown k off → off < B
   pub falls : (k off : ℕ) → o .answer ≡ Grown k off → o .rest .ckpoint < count
+  pub clean : (k off : ℕ) → o .answer ≡ Grown k off → Blank B k off (B - off) (o .image)
 
 not-full : (k off : ℕ) → Full ≡ Grown k off → ⊥
 not-full k off e = let z : _≡_ {A = ℕ} 0 1 = cc in omega arith
@@ -77,22 +100,32 @@ not-damaged k off e = let z : _≡_ {A = ℕ} 0 1 = cc in omega arith
 
 nothing : {B N l count : ℕ} {o : GrowOut Lookahead} → Valid (o .rest) N l → ((k off : ℕ) → o .answer ≡ Grown k off → ⊥) → Grows B N l count o
 nothing g f =
-    record { valid = g; below = λ k off e. absurd (f k off e); room = λ k off e. absurd (f k off e); falls = λ k off e. absurd (f k off e) }
+    record {
+      valid = g;
+      below = λ k off e. absurd (f k off e);
+      room = λ k off e. absurd (f k off e);
+      falls = λ k off e. absurd (f k off e);
+      clean = λ k off e. absurd (f k off e);
+    }
 
 fewer : {B N l c d : ℕ} {o : GrowOut Lookahead} → d ≤ c → Grows B N l d o → Grows B N l c o
 fewer h g =
-    record { valid = g .valid; below = g .below; room = g .room; falls = λ k off e. omega (arith, g .falls k off e) }
+    record { valid = g .valid; below = g .below; room = g .room; falls = λ k off e. omega (arith, g .falls k off e); clean = g .clean }
 
 -- a link that ended so, after an allocation
-linked : {B N l count k : ℕ} {a : Growth} (img : List ℕ) (v : Lookahead) → Valid v N l → k < N → v .ckpoint < count → Ends B k a
+linked : {B N l count k : ℕ} {a : Growth} (img : List ℕ) (v : Lookahead) → Valid v N l → k < N → v .ckpoint < count → Ends B k a img
     → Grows B N l count (grow-out a img v)
 linked img v g h f broken = nothing g not-damaged
-linked {B} {k = k} img v g h f (made {off} r) =
+linked {B} {k = k} img v g h f (made {off} r b) =
     record {
       valid = g;
       below = λ j o e. let i : k ≡ j = cc in omega arith;
       room = λ j o e. let i : off ≡ o = cc in omega arith;
       falls = λ j o e. f;
+      clean = λ j o e.
+          let i : k ≡ j = cc in
+          let q : off ≡ o = cc in
+          rw (← i, ← q) b;
     }
 
 module _ (B N l : ℕ) (health : List ℕ) (t : Table) (head s : ℕ) (z : Sized B) (fits : s ≤ sizeMax) where
@@ -111,7 +144,7 @@ module _ (B N l : ℕ) (health : List ℕ) (t : Table) (head s : ℕ) (z : Sized
         rw (grow-spoiled (windowAlloc B N l t) m w v health B N head s img k e p q) (fewer (omega arith) (again v (wiped B k img) g))
     tried k v e g b f false p false q =
         rw (grow-linked (windowAlloc B N l t) m w v health B N head s img k e p q, link-rest B N k head s (wiped B k img) v (tt {0}))
-        (linked _ v g b f (link-ends B N k head s (wiped B k img) (tt {0}) z fits))
+        (linked _ v g b f (link-ends B N k head s (wiped B k img) (tt {0}) z fits (blank-wiped B k img)))
 
     answered : (a : Allocated) → a ≡ allocOf N l (seenIn B N img t) w → Outcome N l (w .ckpoint) a → (q : Answer) → a .answer ≡ q
         → Grows B N l (w .ckpoint) (growOf (windowAlloc B N l t) (suc m) w health B N head s img)

@@ -8,11 +8,14 @@ use native.Mathlib.Omega.{arith}
 use lib.Dec.{ltb}
 use borrow.Author.Tests.{lt-ltb, le-ltb}
 use Rattle.span.specs.Words.{bytes32}
+use Rattle.span.proofs.Words.{length-bytes32}
 use Rattle.card.specs.Blocks.{pointer}
 use Rattle.device.specs.declared.Programmed.{Programmed}
 use Rattle.device.specs.declared.Programmed.the-variants.{Stored, Refused}
 use Rattle.device.specs.Device.{stored, programOf, ProgramGives}
+use Rattle.device.specs.Bounds.{Blank}
 use Rattle.device.proofs.Steps.{told-stored, told-refused}
+use Rattle.device.proofs.Blanks.{blank-part, blank-programmed}
 use Rattle.grow.specs.declared.Growth.the-variants.{Grown, Damaged}
 use Rattle.grow.specs.declared.block.Linked.the-variants.{Done, Spoiled}
 use Rattle.grow.specs.Grow.{grow-out, pointersOf}
@@ -61,6 +64,14 @@ pointers-rest (suc m) B N k off x cur img w v =
 pub put-start : (health : List ℕ) (B N k off count cur : ℕ) (img : List ℕ)
     → putOf health B N k off count 0 cur img ≡ putOf health B N k off (count - 0) 0 cur img
 put-start health B N k off count cur img = ap (λ (m : ℕ). putOf health B N k off m 0 cur img) (omega arith)
+
+-- the room behind a pointer that is programmed stays erased
+pub words-blank : {B k : ℕ} {img img′ : List ℕ} {r : Programmed} (health : List ℕ) (count x cur : ℕ) → x < count
+    → ProgramGives (programOf health B k (4 * x) (bytes32 cur) img) r img′ → Blank B k (4 * x) (4 * (count - x)) img
+    → Blank B k (4 * (x + 1)) (4 * (count - (x + 1))) img′
+words-blank health count x cur l g b =
+    blank-programmed health (4 * x) (bytes32 cur) g (omega (arith, length-bytes32 cur))
+    (blank-part (4 * (x + 1)) (4 * (count - (x + 1))) (omega arith) (omega arith) b)
 
 module _ (health : List ℕ) (B N k off count x cur : ℕ) (img : List ℕ) where
   pub put-done : count ≤ x → putOf health B N k off (count - x) x cur img ≡ record { answer = Done (Grown k off); image = img }

@@ -3,6 +3,7 @@ use crate::Growth;
 use device::Erased;
 use device::Programmed;
 ghost use Prim.Native.Nat.{_*_, _≤_};
+ghost use Rattle.device.specs.Bounds.{Blank};
 ghost use Rattle.files.specs.Table.{sizeMax};
 ghost use Rattle.grow.specs.Attempt.{putOf, attemptOf, tryOf, LinkGives, Linking};
 
@@ -22,7 +23,7 @@ fn put_pointers(
     count: u32,
     head: u32,
 ) -> Linked
-    requires { ⌜ Linking b n k (now image) (now health) × (4 * count ≤ b) ⌝ }
+    requires { ⌜ Linking b n k (now image) (now health) × (4 * count ≤ b) × Blank b k 0 (4 * count) (now image) ⌝ }
     ensures { λ r. ⌜ LinkGives
         (putOf (now (health .entry)) b n k (4 * count) count 0 head (now (image .entry)))
         r (now (image .exit)) ⌝ }
@@ -51,7 +52,7 @@ fn put_pointers(
 
 // Block `k`, just erased, becomes the last block of the list: an incomplete last block has its bytes copied, a full one gets pointers.
 fn link(image: &mut [u8], health: &[u8], b: u32, n: u32, k: u32, head: u32, size: u32) -> Linked
-    requires { ⌜ Linking b n k (now image) (now health) × (size ≤ sizeMax) ⌝ }
+    requires { ⌜ Linking b n k (now image) (now health) × (size ≤ sizeMax) × Blank b k 0 b (now image) ⌝ }
     ensures { λ r. ⌜ LinkGives
         (attemptOf (now (health .entry)) b n k head size (now (image .entry)))
         r (now (image .exit)) ⌝ }

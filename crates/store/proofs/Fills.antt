@@ -11,8 +11,9 @@ use lib.ListN.{length, take, drop, replicate, length-drop, drop-of-length-le}
 use lib.Seq.{take-all, take-nil}
 use Rattle.device.specs.declared.Programmed.{Programmed}
 use Rattle.device.specs.declared.Programmed.the-variants.{Stored, Refused}
-use Rattle.device.specs.Bounds.{Room}
+use Rattle.device.specs.Bounds.{Room, Blank}
 use Rattle.device.specs.Device.{stored, refusesProgram, ProgramOut, programOf, ProgramGives}
+use Rattle.device.proofs.Blanks.{blank-part}
 use Rattle.device.proofs.Steps.{program-stored, told-stored, told-refused}
 use Rattle.files.specs.declared.Entry.{Entry}
 use Rattle.files.specs.Table.{sizeMax}
@@ -23,6 +24,7 @@ use Rattle.store.specs.declared.block.Filled.the-variants.{Spoiled}
 use Rattle.store.specs.Write.{Job, over, new, Look, fronted}
 use Rattle.store.specs.Store.{lookIn, jobOf}
 use Rattle.store.specs.Fill.{frontOf, FillOut, share, tailOf, fillOf, FillGives, Tailing, Filling}
+use Rattle.store.proofs.Blanks.{front-blank}
 
 -- ---- a run of the data, cut to what there is
 
@@ -141,10 +143,10 @@ module _ {B N : ℕ} {e : Entry} {pos : ℕ} {src : List ℕ} {k off s : ℕ} {i
   fits : off + m ≤ B
   fits = share-fits B (jobOf e pos src) off s m shared (f .room)
 
-  pub front-asks : Room B k off m image health × (length src ≤ sizeMax)
+  pub front-asks : Room B k off m image health × (length src ≤ sizeMax) × Blank B k off m image
   front-asks =
       let link : Linking B N k image health = record { card = f .card; known = f .known; block = f .block } in
-      (room-of off m image link refl fits, omega (arith, f .fits))
+      (room-of off m image link refl fits, omega (arith, f .fits), blank-part off m (omega arith) (omega (arith, fits)) (f .clean))
 
   module _ {r : Programmed} {img₁ : List ℕ} (p : ProgramGives (frontOf health B k off s m pos src image) r img₁) where
     pub fill-spoiled : r ≡ Refused → FillGives (fillOf (lookIn B N e) health B (jobOf e pos src) k off s image) Spoiled img₁
@@ -167,6 +169,7 @@ module _ {B N : ℕ} {e : Entry} {pos : ℕ} {src : List ℕ} {k off s : ℕ} {i
             fits = fits;
             whole = omega (arith, share-ends (e .size) (pos + length src) s (B - off) m shared (f .left), f .most, f .fits);
             below = λ l. tail-below (e .size) (pos + length src) s (B - off) m (pos + length src - s) shared refl l;
+            clean = λ l. rw (p .image, stores .1) (front-blank s pos src (front-asks .2) l);
           }
 
       pub fill-on : {q : Filled} {after : List ℕ} → FillGives (tailOf (lookIn B N e) B k off s m (pos + length src) img₁) q after

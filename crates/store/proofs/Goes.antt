@@ -118,6 +118,7 @@ module _ {B N l : ℕ} {health : List ℕ} {t : Table} {e : Entry} {pos : ℕ} {
                 block = grows .below k off (sym (p .answer) ∙ a);
                 room = grows .room k off (sym (p .answer) ∙ a);
                 left = d;
+                clean = rw (p .image) (grows .clean k off (sym (p .answer) ∙ a));
               }
 
           -- the filling answered

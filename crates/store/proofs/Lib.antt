@@ -2,6 +2,7 @@
 pub mod Index
 pub mod Looks
 pub mod Heads
+pub mod Blanks
 pub mod Fills
 pub mod Tails
 pub mod Turns

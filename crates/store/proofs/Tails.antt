@@ -6,7 +6,7 @@ use native.Mathlib.Omega.{arith}
 use borrow.Author.Tests.{lt-ltb, le-ltb}
 use lib.ListN.{length, take, drop}
 use Rattle.device.specs.declared.Programmed.{Programmed}
-use Rattle.device.specs.Bounds.{Room, Source}
+use Rattle.device.specs.Bounds.{Room, Source, Blank}
 use Rattle.device.specs.Device.{ProgramOut, programOf, ProgramGives}
 use Rattle.device.proofs.Steps.{program-stored}
 use Rattle.files.specs.declared.Entry.{Entry}
@@ -45,13 +45,13 @@ module _ {B N : ℕ} {e : Entry} {k off s m past : ℕ} {image health : List ℕ
         found : lookIn B N e image (s + at) ≡ Look.Found ob
         found = told-block (lookIn B N e image (s + at)) ob (sym er ∙ x)
 
-        -- both runs lie in their blocks
-        pub tail-asks : Room B k (off + at) (m - at) image health × Source B k (off + at) ob (off + at) (m - at) image
+        -- both runs lie in their blocks, and the new one is erased
+        pub tail-asks : Room B k (off + at) (m - at) image health × Source B k (off + at) ob (off + at) (m - at) image × Blank B k (off + at) (m - at) image
         tail-asks =
             let link : Linking B N k image health = record { card = f .card; known = f .known; block = f .block } in
             let room : off + at + (m - at) ≤ B = omega (arith, f .fits) in
             let below : ob < N = look-below image (s + at) ob (tail-looks .0) (tail-looks .1) found in
-            (room-of (off + at) (m - at) image link refl room, source-of ob (off + at) (m - at) link below room)
+            (room-of (off + at) (m - at) image link refl room, source-of ob (off + at) (m - at) link below room, rw ea (f .clean (omega arith)))
 
         pub tail-copied : {q : Programmed} {after : List ℕ}
             → ProgramGives (programOf health B k (off + at) (take (m - at) (drop (ob * B + (off + at)) image)) image) q after

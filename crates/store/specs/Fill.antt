@@ -7,6 +7,7 @@ use lib.Dec.{ltb}
 use lib.ListN.{length}
 use Rattle.card.specs.Card.{Card}
 use Rattle.device.specs.declared.Programmed.the-variants.{Stored, Refused}
+use Rattle.device.specs.Bounds.{Blank}
 use Rattle.device.specs.Device.{refusesProgram, ProgramOut}
 use Rattle.files.specs.declared.Entry.{Entry}
 use Rattle.files.specs.Table.{sizeMax}
@@ -56,7 +57,7 @@ pub record FillGives (o : FillOut) (r : Filled) (after : List ℕ) : Type 0 wher
   pub answer : r ≡ o .answer
   pub image : after ≡ o .image
 
--- what a filling asks: a card with a health byte for each block, a block with room, and something left to write
+-- what a filling asks: a card with a health byte for each block, a block with room that is erased, and something left to write
 pub record Filling (B N : ℕ) (e : Entry) (pos : ℕ) (src : List ℕ) (k off s : ℕ) (image health : List ℕ) : Type 0 where
   pub card : Card B N (length image)
   pub known : N ≤ length health
@@ -65,6 +66,7 @@ pub record Filling (B N : ℕ) (e : Entry) (pos : ℕ) (src : List ℕ) (k off s
   pub block : k < N
   pub room : off < B
   pub left : s < new (jobOf e pos src)
+  pub clean : Blank B k off (B - off) image
 
 -- what the tail asks: a card with a health byte for each block, a block that takes it, and that it lies in the block and in the old file
 pub record Tailing (B N : ℕ) (e : Entry) (k off s m past : ℕ) (image health : List ℕ) : Type 0 where
@@ -76,3 +78,4 @@ pub record Tailing (B N : ℕ) (e : Entry) (k off s m past : ℕ) (image health 
   pub fits : off + m ≤ B
   pub whole : s + m ≤ sizeMax
   pub below : past - s < m → s + (past - s) < e .size
+  pub clean : past - s < m → Blank B k (off + (past - s)) (m - (past - s)) image

@@ -8,7 +8,7 @@ use files::Entry;
 ghost use Prim.Native.Nat.{_≤_};
 ghost use lib.ListN.{length};
 ghost use Rattle.device.specs.Device.{ProgramGives};
-ghost use Rattle.device.specs.Bounds.{Room};
+ghost use Rattle.device.specs.Bounds.{Room, Blank};
 ghost use Rattle.files.specs.Table.{sizeMax};
 ghost use Rattle.store.specs.Store.{lookIn, jobOf};
 ghost use Rattle.store.specs.Fill.{frontOf, tailOf, fillOf, FillGives, Tailing, Filling};
@@ -32,7 +32,7 @@ fn front(
     pos: u32,
     data: &[u8],
 ) -> Programmed
-    requires { ⌜ Room b k off m (now image) (now health) × (length (now «data») ≤ sizeMax) ⌝ }
+    requires { ⌜ Room b k off m (now image) (now health) × (length (now «data») ≤ sizeMax) × Blank b k off m (now image) ⌝ }
     ensures { λ r. ⌜ ProgramGives
         (frontOf (now (health .entry)) b k off s m pos (now («data» .entry)) (now (image .entry)))
         r (now (image .exit)) ⌝ }

@@ -2,6 +2,7 @@
 use mathlib.Core.Path.{refl}
 use Prim.Native.Nat.{_+_, _-_}
 use native.Mathlib.Omega.{arith}
+use Rattle.device.proofs.Blanks.{blank-part}
 use Rattle.grow.proofs.Rooms.{room-of, source-of, gives}
 use Rattle.grow.proofs.Links.{attempt-empty, attempt-damaged, attempt-spoiled, attempt-copied, attempt-pointers, used-fits, index-fits, next-fits}
 use borrow.Author.Needs.{needs}
@@ -42,11 +43,10 @@ pointer-count-requires c κs = search needs
 
 put-pointers-requires : tie.Need-put-pointers-requires
 put-pointers-requires c κs =
-    let s = c .before .before .before .before .before .before .before .before .before in (
-      s .pre .0,
-      next-fits (s .pre .0 .card .sized) (s .args .size - 1) (omega arith) _ _ (c .before .before .before .before .index-at .ensures) (c .before .pointer-count .ensures)
-          (omega (arith, c .before .before .before .offset-at .ensures, c .before .before .if3 .taken)),
-    )
+    let s = c .before .before .before .before .before .before .before .before .before in
+    let fits = next-fits (s .pre .0 .card .sized) (s .args .size - 1) (omega arith) _ _ (c .before .before .before .before .index-at .ensures) (c .before .pointer-count .ensures)
+    (omega (arith, c .before .before .before .offset-at .ensures, c .before .before .if3 .taken)) in
+    (s .pre .0, fits, blank-part _ _ (omega arith) (omega (arith, fits)) (s .pre .2))
 
 same-length : tie.Need-same-length
 same-length c = search needs
@@ -64,7 +64,7 @@ program-copy-requires c κs =
     let s = c .before .before .before .before .before .before .before .before in
     let u = used-fits (s .pre .0 .card .sized) (s .args .size - 1) (omega arith) in
     let r = c .before .before .offset-at .ensures in
-    (room-of _ _ _ (s .pre .0) refl (omega arith), source-of _ _ _ (s .pre .0) (omega arith) (omega arith))
+    (room-of _ _ _ (s .pre .0) refl (omega arith), source-of _ _ _ (s .pre .0) (omega arith) (omega arith), blank-part _ _ (omega arith) (omega arith) (s .pre .2))
 
 enum-told : tie.Need-enum-told
 enum-told c = search needs

@@ -4,22 +4,26 @@ use Prim.Native.Nat.{_*_, _-_, _≤_}
 use native.Mathlib.Omega.{arith}
 use borrow.Author.Needs.{needs}
 use lib.ListN.{length}
+use Rattle.device.specs.Bounds.{Blank}
+use Rattle.device.proofs.Blanks.{blank-part}
 use Rattle.grow.specs.Attempt.{putOf}
 use Rattle.grow.proofs.Rooms.{room-of, asked-of, gives}
-use Rattle.grow.proofs.Pointers.{put-start, put-done, put-damaged, put-spoiled, put-turn}
+use Rattle.grow.proofs.Pointers.{put-start, words-blank, put-done, put-damaged, put-spoiled, put-turn}
 use Rattle.grow.proofs.block.put_pointers.Statement.{statement}
 use Rattle.grow.proofs.block.put_pointers.Tie as tie
 
 abbrev Inv-loop : tie.InvT-loop
 Inv-loop image₀ health b n k count head cur₀ x₀ image cur x = (x ≤ count) × (length image ≡ length image₀)
     × (putOf health b n k (4 * count) count 0 head image₀ ≡ putOf health b n k (4 * count) (count - x) x cur image)
+    × Blank b k (4 * x) (4 * (count - x)) image
 
 abbrev μ-loop : tie.MeasureT-loop
 μ-loop image₀ health b n k count head cur₀ x₀ image cur x = count - x
 
 loop-holds : tie.Need-loop-holds Inv-loop μ-loop
 loop-holds c =
-    (search needs, refl, put-start _ _ _ _ _ _ _ _)
+    let s = c .before .before in
+    (search needs, refl, put-start _ _ _ _ _ _ _ _, blank-part (4 * 0) (4 * (s .args .count - 0)) (omega arith) (omega arith) (s .pre .2))
 
 same-length : tie.Need-same-length Inv-loop μ-loop
 same-length c = search needs
@@ -38,7 +42,7 @@ mul-program-word c = search needs
 program-word-requires : tie.Need-program-word-requires Inv-loop μ-loop
 program-word-requires c κs =
     let l = c .before .before .before in
-    room-of _ _ _ (l .before .before .before .pre .0) (l .loop .inv .1) (omega arith)
+    (room-of _ _ _ (l .before .before .before .pre .0) (l .loop .inv .1) (omega arith), blank-part _ _ (omega arith) (omega arith) (l .loop .inv .3))
 
 enum-told : tie.Need-enum-told Inv-loop μ-loop
 enum-told c = search needs
@@ -78,6 +82,8 @@ loop-again c =
       l .loop .inv .2
           ∙ put-turn (a .health .now) (a .b) (a .n) (a .k) (4 * a .count) (a .count) (l .loop .x) (l .loop .cur) (l .loop .image) (search needs) (search needs)
           (c .before .before .before .before .before .before .program-word .ensures) _ (c .before .before .enum-told .given .1) (c .pointer .ensures),
+      words-blank (a .health .now) (a .count) (l .loop .x) (l .loop .cur) (search needs) (c .before .before .before .before .before .before .program-word .ensures)
+          (l .loop .inv .3),
     )
 
 mul-t18 : tie.Need-mul-t18 Inv-loop μ-loop

@@ -1,4 +1,5 @@
 -- `grow::block::try_block` meets its contract: a refused erase ends the try, else the link's answer is its own. Assumes nothing.
+use Rattle.device.proofs.Blanks.{blank-erased}
 use Rattle.grow.proofs.Rooms.{block-of, gives}
 use Rattle.grow.proofs.Tries.{try-kept, try-wiped}
 use borrow.Author.Needs.{needs}
@@ -13,7 +14,9 @@ enum-told : tie.Need-enum-told
 enum-told c = search needs
 
 link-requires : tie.Need-link-requires
-link-requires c κs = search needs
+link-requires c κs =
+    let e = c .before .before .before .before .before in
+    (search needs, search needs, blank-erased _ _ (e .erase .ensures) (c .before .enum-told .given .1))
 
 enum-told-2 : tie.Need-enum-told-2
 enum-told-2 c = search needs

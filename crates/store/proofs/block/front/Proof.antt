@@ -1,5 +1,6 @@
 -- `store::block::front` meets its contract: the zeros, then the run of data that there is. Assumes nothing.
 use native.Mathlib.Nat.{lt-of-le-of-lt}
+use Rattle.store.proofs.Blanks.{zeros-blank, data-blank}
 use Rattle.store.proofs.Fills.{gap-fits, front-spoiled, front-goes}
 use borrow.Author.Needs.{needs}
 use native.Mathlib.Omega.{arith}
@@ -13,7 +14,10 @@ least-requires : tie.Need-least-requires
 least-requires c κs = search needs
 
 program-zeros-requires : tie.Need-program-zeros-requires
-program-zeros-requires c κs = search needs
+program-zeros-requires c κs =
+    let g = c .before in
+    let s = g .before .before .before .before .before in
+    (search needs, zeros-blank _ _ (g .least .ensures) (s .pre .2))
 
 enum-told : tie.Need-enum-told
 enum-told c = search needs
@@ -72,6 +76,8 @@ program-requires c κs =
         room = omega (arith, c .before .before .before .before .before .before .before .before .before .before .least .ensures, c .before .least3 .ensures, s .pre .0 .room);
       },
       omega (arith, c .before .before .least2 .ensures, c .before .least3 .ensures),
+      data-blank _ _ (c .before .before .before .before .before .before .before .before .before .before .least .ensures) (s .pre .2) _
+          (c .before .before .before .before .before .before .before .before .program-zeros .ensures) _ _ (c .before .least3 .ensures),
     )
 
 same-length-2 : tie.Need-same-length-2
