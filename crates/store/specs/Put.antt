@@ -16,7 +16,7 @@ use Rattle.store.specs.declared.growths.Wrote.{Wrote}
 use Rattle.store.specs.declared.Outcome.the-variants as outcome
 use Rattle.store.specs.declared.Stored.{Stored}
 use Rattle.store.specs.Write.{Writing, Written, NoRoom, Corrupt, WriteOut, writeOf}
-use Rattle.store.specs.Store.{lookIn, jobOf}
+use Rattle.store.specs.Store.{lookIn, jobOf, stays}
 
 -- the growths from window w and the list (h, s) on, m of them at most
 unfoldable pub onBy : ℕ → ℕ → ℕ → ℕ → List ℕ → Table → Entry → ℕ → List ℕ → Lookahead → ℕ → ℕ → List ℕ → WriteOut Lookahead
@@ -50,6 +50,6 @@ pub record Putting (B N l : ℕ) (image health : List ℕ) (t : Table) (w : Look
 
 -- the table changes last
 abbrev pub finishOf : Table → ℕ → declared.Writing → Lookahead → Stored
-finishOf t i (writing.Written h s) w = record { answer = outcome.Done; window = w; table = putOf t i s h }
-finishOf t i writing.NoRoom w = record { answer = outcome.Full; window = w; table = t }
-finishOf t i writing.Corrupt w = record { answer = outcome.Damaged; window = w; table = t }
+finishOf t i (writing.Written h s) w = stays outcome.Done w (putOf t i s h)
+finishOf t i writing.NoRoom w = stays outcome.Full w t
+finishOf t i writing.Corrupt w = stays outcome.Damaged w t

@@ -60,7 +60,7 @@ fn front(
     )
 }
 
-// The tail of the old file goes behind the front of the `m` positions from `s` on, from position `past` on: from its block of the same index.
+// Of the `m` positions from `s` on, those from `past` on are the old file's tail, copied from its block of the same index.
 fn tail(
     image: &mut [u8],
     health: &[u8],
