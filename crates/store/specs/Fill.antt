@@ -68,7 +68,7 @@ pub record Filling (B N : ℕ) (e : Entry) (pos : ℕ) (src : List ℕ) (k off s
   pub left : s < new (jobOf e pos src)
   pub clean : Blank B k off (B - off) image
 
--- what the tail asks: a card with a health byte for each block, a block that takes it, and that it lies in the block and in the old file
+-- what the tail asks: a card with a health byte for each block, a block that takes it, and that it lies in the old file and in erased bytes of the block
 pub record Tailing (B N : ℕ) (e : Entry) (k off s m past : ℕ) (image health : List ℕ) : Type 0 where
   pub card : Card B N (length image)
   pub known : N ≤ length health
