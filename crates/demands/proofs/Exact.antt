@@ -1,13 +1,14 @@
--- -28 exactly, on any table, its lists sound or not: from a fresh window, and where no step answers -84. Assumes nothing.
-use mathlib.Core.Path.{_≡_, refl, ap, subst}
-use mathlib.Core.Logic.{_⊎_, inl, inr}
-use mathlib.Core.Bool.{Bool, true, false}
-use mathlib.Core.List.{List, []}
-use Prim.Native.Nat.{ℕ, suc, _+_, _-_, _^_, _≤_, _<_}
+-- -28 exactly, from any window and on any table, its lists sound or not, where no step answers -84. Assumes nothing.
+use mathlib.Core.Path.{_≡_, refl, sym, ap, _∙_, subst}
+use mathlib.Core.Bool.{Bool, true, _||_}
+use mathlib.Core.List.{List}
+use Prim.Native.Nat.{ℕ, suc, _+_, _-_, _%_, _^_, _≤_, _<_}
+use native.Mathlib.Nat.{mod-lt}
 use native.Mathlib.Omega.{arith}
 use lib.IntN.{negsuc}
 use lib.ListN.{length, length-replicate}
-use Rattle.card.specs.Card.{Card}
+use Rattle.layout.specs.Place.{Sized}
+use Rattle.card.specs.Card.{Card, goodCard}
 use Rattle.card.proofs.Cards.{card}
 use Rattle.files.specs.declared.Entry.{Entry}
 use Rattle.files.specs.declared.Table.{Table}
@@ -15,23 +16,16 @@ use Rattle.files.specs.declared.Found.the-variants as found
 use Rattle.files.specs.Table.{sizeMax, held, file}
 use Rattle.files.specs.Find.{findOf}
 use Rattle.window.specs.declared.Lookahead.{Lookahead}
-use Rattle.window.specs.declared.Answer.{Answer}
-use Rattle.window.specs.declared.Answer.the-variants as answer
-use Rattle.window.specs.Value.{freshOf, checkpointOf, Sizes}
-use Rattle.window.specs.Scan.{seenAll}
-use Rattle.window.specs.Allocate.{allocOf}
-use Rattle.window.proofs.Cases.{no-both}
-use Rattle.window.proofs.Kept.{fresh-valid}
-use Rattle.window.proofs.Valid.{looks}
-use Rattle.windows.specs.Call.{View, handed, full, bad, During, Lists}
-use Rattle.windows.specs.Space.{goodUnlisted}
-use Rattle.windows.proofs.Alloc.{alloc-view}
-use Rattle.windows.proofs.Came.{fresh-clean}
-use Rattle.windows.proofs.InCall.{begins}
-use Rattle.windows.proofs.Listed.{AllOk, tells}
+use Rattle.window.specs.Scan.{has}
+use Rattle.window.specs.Value.{freshOf, checkpointOf, Sizes, Valid}
+use Rattle.window.proofs.Valid.{looks, tested-valid, valid-tested}
+use Rattle.windows.specs.Call.{Clean, Shows}
+use Rattle.windows.specs.Space.{markedIn}
+use Rattle.windows.proofs.Came.{empty-clean}
 use Rattle.windows.proofs.Rotate.{whole-circle}
+use Rattle.windows.proofs.Space.{knows, same-used, none-left, clean-used, listed-used}
 use Rattle.alloc.specs.Visits.{seenIn, listedIn, visitsOf}
-use Rattle.grow.specs.Extend.{tookOf, windowAlloc}
+use Rattle.grow.specs.Extend.{windowAlloc}
 use Rattle.store.specs.Write.{Writing, WriteOut, Written, NoRoom, Corrupt, zeros, new, kept}
 use Rattle.store.specs.Store.{jobOf, lookIn, puts, written, writtenOf}
 use Rattle.store.specs.Calls.{testedOf}
@@ -39,137 +33,217 @@ use Rattle.store.proofs.Tested.{tests, file-most}
 use Rattle.store.proofs.Calls as calls
 use Rattle.writes.specs.Allocator.{Stays}
 use Rattle.writes.specs.Plain.{need}
-use Rattle.writes.proofs.Counting.{some-need, Counted, corrupt, done, counted, first-bad}
+use Rattle.writes.proofs.Counting.{some-need, Counted, corrupt, done, counted}
 use Rattle.writes.proofs.Counting.{full as no-room}
 use Rattle.demands.specs.Calls.{State, write, truncate, storedIn, after}
-use Rattle.demands.specs.Space.{goodBlock, blocksFor, goodFree, Exactly}
-use Rattle.demands.proofs.Tables.{listedBy}
-use Rattle.demands.proofs.Windows.{Listed, InCall, ExactFor, goodsLeft, windowed}
-use Rattle.demands.proofs.AnyVisits.{all-below, told-again, ok-or-not}
-
--- an allocation that has nothing left and is told of a failed visit
-only-bad : {base n : ℕ} {ok : Bool} {c : ℕ} {q : Answer} {v : Lookahead} → View (λ b t. ⊥) base n ok c q v → c ≡ n → 0 < n → q ≡ answer.Damaged
-only-bad (handed h o) e p = absurd (h .says)
-only-bad (full z f o) e p = absurd (f 0 (omega arith) p)
-only-bad (bad f z y) e p = refl
+use Rattle.demands.specs.Came.{Came}
+use Rattle.demands.specs.Space.{goodBlock, blocksFor, goodFree, usedIn, goodUsable, goodUnmarked, readBy, Apart, Free, Exactly, Spent, Settled}
+use Rattle.demands.proofs.Windows.{Used, Knowing, UsedUp, goodsLeft, counter}
+use Rattle.demands.proofs.AnyVisits.{all-below, seen-again, read-listed, shows, listed-below}
+use Rattle.demands.proofs.Came.{came-clean}
 
 -- what a write of at least one byte to an entry answers where it is not -84
-pub record Decided (needed free : ℕ) (a : Writing) : Type 0 where
-  pub full : free < needed → a ≡ NoRoom
-  pub enough : needed ≤ free → (h : ℕ) × (n : ℕ) × (a ≡ Written h n)
+pub record Decided (B N l needed free : ℕ) (o : WriteOut Lookahead) : Type 0 where
+  pub full : free < needed → o .answer ≡ NoRoom
+  pub enough : needed ≤ free → (h : ℕ) × (n : ℕ) × (o .answer ≡ Written h n)
+  pub spent : o .answer ≡ NoRoom → UsedUp B N l (o .rest) (o .image)
 
-module _ (B N l start : ℕ) (health : List ℕ) (t : Table) (img : List ℕ) (below : start < N) (sizes : Sizes N l) (c : Card B N (length img))
+shows-here : (B N : ℕ) (s : State) → Shows N (listedIn B N (s .image) (s .table)) (seenIn B N (s .image) (s .table))
+unfolding listedIn seenIn
+shows-here B N s = shows N (visitsOf B N (s .image) (held (s .table))) (all-below B N (s .image) (held (s .table)))
+
+seen-same : (B N : ℕ) (s : State) (img : List ℕ) → Sized B → Stays B (λ k. has (readBy B N (s .image) (held (s .table))) k ≡ true) (s .image) img
+    → seenIn B N img (s .table) ≡ seenIn B N (s .image) (s .table)
+unfolding seenIn
+seen-same B N s img z st = seen-again B N (s .image) img (held (s .table)) z st
+
+module _ (B N l : ℕ) (health : List ℕ) (s : State) (valid : Valid (s .window) N l) (sizes : Sizes N l) (c : Card B N (length (s .image))) (apart : Apart B N s)
     (e : Entry) (p : ℕ) (src : List ℕ) (some : 0 < length src) (fits : p + length src ≤ sizeMax) (most : e .size ≤ sizeMax) where
-  abbrev w : Lookahead
-  w = freshOf start N
-
   abbrev listed : List ℕ
-  listed = listedBy B N (held t) img
+  listed = listedIn B N (s .image) (s .table)
+
+  abbrev used : ℕ → Bool
+  used = usedIn B N s
+
+  abbrev base : ℕ
+  base = (s .window .start + s .window .next) % N
 
   abbrev o : WriteOut Lookahead
-  o = puts B N l health t e p src w img
+  o = puts B N l health (s .table) e p src (s .window) (s .image)
 
-  call : During N l listed (checkpointOf w N) []
-  call = begins N l listed w (fresh-valid N l start below) (fresh-clean N start listed)
-
-  -- a failed visit: the first allocation is -84
-  failed : seenAll (visitsOf B N img (held t)) .ok ≡ false → o .answer ≡ Corrupt
-  unfolding puts windowAlloc seenIn
-  failed n =
-      let v = alloc-view (λ b x. ⊥) (call .base) N l (seenAll (visitsOf B N img (held t))) sizes
-      (tells N (visitsOf B N img (held t)) (all-below B N img (held t)) .low) (λ ok b. no-both (seenAll (visitsOf B N img (held t)) .ok) ok n)
-      (checkpointOf w N) (call .valid) (λ x y z. absurd (omega arith)) (call .on) .view in
-      let a = only-bad v refl (omega (arith, below)) in
-      first-bad (lookIn B N e) (λ (v : Lookahead). v .ckpoint) (windowAlloc B N l t) health B N (jobOf e p src) (checkpointOf w N)
-      (allocOf N l (seenIn B N img t) (checkpointOf w N) .window) img
-      (ap (λ (x : Answer). tookOf x (allocOf N l (seenIn B N img t) (checkpointOf w N) .window)) a) (omega arith)
-
-  told : AllOk (visitsOf B N img (held t)) → (img′ : List ℕ) → Stays B (Listed listed) img img′ → Lists N listed (seenIn B N img′ t)
-  unfolding seenIn
-  told ok img′ st = told-again B N img img′ (held t) (c .sized) ok st
+  told : (img : List ℕ) → Card B N (length img) → Stays B (Used used) (s .image) img → Shows N listed (seenIn B N img (s .table))
+  told img c′ st = rw (seen-same B N s img (c .sized) (λ k o u h. st k o (apart k u) h)) (shows-here B N s)
 
   short : new (jobOf e p src) < 2 ^ 32
   short = omega arith
 
-  -- no failed visit: the count decides
-  counts : AllOk (visitsOf B N img (held t)) → (o .answer ≡ Corrupt → ⊥)
-      → Decided (blocksFor B (e .size) p (length src)) (goodUnlisted (goodBlock health) listed N) (o .answer)
+  -- the count decides
+  pub decided : (o .answer ≡ Corrupt → ⊥) → Decided B N l (blocksFor B (e .size) p (length src)) (goodUsable B N health s) o
   unfolding puts
-  counts ok n =
-      go (counted (lookIn B N e) B N health (λ (v : Lookahead). v .ckpoint) (windowAlloc B N l t) (Listed listed) (InCall B N l listed img (call .base))
-      (ExactFor N listed) (goodsLeft health N listed (call .base))
-      (windowed B N l health listed t sizes img (call .base) (λ img′ c′ st. told ok img′ st))
-      (jobOf e p src) short (checkpointOf w N) img c
-      (record { during = call; on = call .on; card = c; stays = λ k q u h. refl }))
+  decided n =
+      go (counted (lookIn B N e) B N health (λ (v : Lookahead). v .ckpoint) (windowAlloc B N l (s .table)) (Used used) (Knowing B N l listed used (s .image) base)
+      (goodsLeft health N used base) (UsedUp B N l) (counter B N l health listed used (s .table) sizes (s .image) base told)
+      (jobOf e p src) short (checkpointOf (s .window) N) (s .image) c
+      (record { knows = knows N l listed (s .window) valid; card = c; stays = λ k q u h. refl }))
     where
-      all : goodsLeft health N listed (call .base) (checkpointOf w N) ≡ goodUnlisted (goodBlock health) listed N
-      all = whole-circle (goodBlock health) (call .base) N listed (call .base-lt)
-
-      exact : ExactFor N listed (checkpointOf w N)
-      exact x y z = absurd (omega arith)
+      all : goodsLeft health N used base (checkpointOf (s .window) N) ≡ goodUsable B N health s
+      all = whole-circle (goodBlock health) base N used (mod-lt _ (c .some))
 
       nd : need B (jobOf e p src) (kept (jobOf e p src)) ≡ blocksFor B (e .size) p (length src)
       nd = some-need B (jobOf e p src) (kept (jobOf e p src)) (omega arith)
 
-      go : Counted (lookIn B N e) B N health (λ (v : Lookahead). v .ckpoint) (windowAlloc B N l t) (Listed listed) (InCall B N l listed img (call .base))
-          (ExactFor N listed) (goodsLeft health N listed (call .base))
-          (windowed B N l health listed t sizes img (call .base) (λ img′ c′ st. told ok img′ st)) (jobOf e p src) short (suc N) (checkpointOf w N) (kept (jobOf e p src)) o
-          → Decided (blocksFor B (e .size) p (length src)) (goodUnlisted (goodBlock health) listed N) (o .answer)
+      go : Counted (lookIn B N e) B N health (λ (v : Lookahead). v .ckpoint) (windowAlloc B N l (s .table)) (Used used) (Knowing B N l listed used (s .image) base)
+          (goodsLeft health N used base) (UsedUp B N l) (counter B N l health listed used (s .table) sizes (s .image) base told)
+          (jobOf e p src) short (suc N) (checkpointOf (s .window) N) (kept (jobOf e p src)) o
+          → Decided B N l (blocksFor B (e .size) p (length src)) (goodUsable B N health s) o
       go (corrupt a) = absurd (n a)
-      go (done h k a x) = record { full = λ u. absurd (omega (arith, x exact, all, nd)); enough = λ u. (h, k, a) }
-      go (no-room a x) = record { full = λ u. a; enough = λ u. absurd (omega (arith, x exact (omega arith), all, nd)) }
-
-  pub decided : (o .answer ≡ Corrupt → ⊥) → Decided (blocksFor B (e .size) p (length src)) (goodUnlisted (goodBlock health) listed N) (o .answer)
-  decided n = go (ok-or-not (visitsOf B N img (held t)))
-    where
-      go : AllOk (visitsOf B N img (held t)) ⊎ (seenAll (visitsOf B N img (held t)) .ok ≡ false)
-          → Decided (blocksFor B (e .size) p (length src)) (goodUnlisted (goodBlock health) listed N) (o .answer)
-      go (inl ok) = counts ok n
-      go (inr fails) = absurd (n (failed fails))
+      go (done h k a x) = record {
+        full = λ u. absurd (omega (arith, all, nd));
+        enough = λ u. (h, k, a);
+        spent = λ q. let y : Written h k ≡ NoRoom = sym a ∙ q in let z : _≡_ {A = ℕ} 0 1 = cc in absurd (omega arith);
+      }
+      go (no-room a x) =
+          let y = x (omega arith) in
+          record { full = λ u. a; enough = λ u. absurd (omega (arith, all, nd)); spent = λ q. y .1 }
 
 -- ---- the calls
 
-module _ (B N l start : ℕ) (health : List ℕ) (t : Table) (image : List ℕ) (below : start < N)
+module _ (B N l : ℕ) (health : List ℕ) (s : State) (tested : testedOf B N l (length (s .image)) health (s .window) ≡ true) where
+  a-card : Card B N (length (s .image))
+  a-card = card B N (length (s .image)) (tests B N l (s .image) health (s .window) tested .card)
+
+  a-size : Sizes N l
+  a-size = looks N l (a-card .some) (a-card .few) (tests B N l (s .image) health (s .window) tested .lookahead)
+
+  a-valid : Valid (s .window) N l
+  a-valid = tested-valid (s .window) N l (tests B N l (s .image) health (s .window) tested .window)
+
+  -- a window and an image that are left are not refused either
+  tested-again : (w : Lookahead) (img : List ℕ) → Valid w N l → Card B N (length img) → testedOf B N l (length img) health w ≡ true
+  unfolding testedOf
+  tested-again w img g c =
+      let ts = tests B N l (s .image) health (s .window) tested in
+      rw (testedOf, ap (goodCard B N) (c .long ∙ sym (a-card .long)) ∙ ts .card, ts .healths, ts .lookahead, valid-tested w N l g)
+
+  -- ---- which windows
+
+  -- where the window is clean, each listed block is used
+  clean-apart : Clean N (listedIn B N (s .image) (s .table)) (s .window) → Apart B N s
+  unfolding listedIn
+  clean-apart c b e =
+      let u = read-listed B N (s .image) (held (s .table)) b e in
+      listed-used N l (listedIn B N (s .image) (s .table)) (s .window) a-valid c b
+      (listed-below N (visitsOf B N (s .image) (held (s .table))) (all-below B N (s .image) (held (s .table))) b u) u
+
+  -- Each block that is left of the window and not marked is not listed: the usable ones are the good unlisted ones that are not marked there.
+  pub clean-free : Clean N (listedIn B N (s .image) (s .table)) (s .window) → Free B N health s (goodUnmarked B N health s)
+  clean-free c = record {
+    apart = clean-apart c;
+    count = same-used (goodBlock health) (usedIn B N s) (λ b. has (listedIn B N (s .image) (s .table)) b || markedIn N (s .window) b) N
+        (clean-used N l (listedIn B N (s .image) (s .table)) (s .window) a-valid c);
+  }
+
+  -- A window that came from store calls, under any lookahead.
+  pub came-free : {l′ : ℕ} → Came B N l′ s → Free B N health s (goodUnmarked B N health s)
+  came-free c = clean-free (came-clean c .1)
+
+  -- Nothing is left of the window, whatever its map: the usable ones are the good unlisted ones.
+  pub none-left-free : s .window .size ≤ s .window .next → Free B N health s (goodFree B N health s)
+  none-left-free h = record {
+    apart = clean-apart (empty-clean N (listedIn B N (s .image) (s .table)) (s .window) h);
+    count = same-used (goodBlock health) (usedIn B N s) (has (listedIn B N (s .image) (s .table))) N
+        (λ b _. none-left N (listedIn B N (s .image) (s .table)) (s .window) h b);
+  }
+
+  module _ (number i : ℕ) (here : findOf (s .table) number ≡ found.At i) where
+    most : file (s .table) i .size ≤ sizeMax
+    most = file-most B N l (s .image) health (s .window) (s .table) number i tested here
+
+    -- what the answer decides is what the code says
+    told-code : (needed free : ℕ) (o : WriteOut Lookahead) → (storedIn (writtenOf (s .table) i o) .code ≡ negsuc 83 → ⊥)
+        → ((o .answer ≡ Corrupt → ⊥) → Decided B N l needed (goodUsable B N health s) o) → goodUsable B N health s ≡ free
+        → Settled B N l health needed free s (storedIn (writtenOf (s .table) i o))
+    told-code needed free o n f q =
+        record {
+          exactly = record {
+            full = λ u. ap (λ (x : Writing). storedIn (written (s .table) i x (o .rest) (o .image)) .code) (d .full (omega arith));
+            enough = λ u. let z = d .enough (omega arith) in ap (λ (x : Writing). storedIn (written (s .table) i x (o .rest) (o .image)) .code) (z .2);
+          };
+          spent = by (o .answer) refl;
+        }
+      where
+        fine : o .answer ≡ Corrupt → ⊥
+        fine z = n (ap (λ (x : Writing). storedIn (written (s .table) i x (o .rest) (o .image)) .code) z)
+
+        d : Decided B N l needed (goodUsable B N health s) o
+        d = f fine
+
+        by : (a : Writing) → o .answer ≡ a → storedIn (written (s .table) i a (o .rest) (o .image)) .code ≡ negsuc 27
+            → Spent B N l health s (storedIn (written (s .table) i a (o .rest) (o .image)) .state)
+        by (Written h k) e z = let y : _≡_ {A = ℕ} 0 1 = cc in absurd (omega arith)
+        by NoRoom e z = let u = d .spent e in record { table = refl; tested = tested-again (o .rest) (o .image) (u .valid) (u .card); none-left = u .none-left }
+        by Corrupt e z = absurd (fine e)
+
+    -- -28 EXACTLY. A write of at least one byte, whatever the lists are.
+    pub any-write : {free : ℕ} → Free B N health s free → (p : ℕ) (src : List ℕ) → 0 < length src → p + length src ≤ sizeMax
+        → (after B N l health (write number p src) s .code ≡ negsuc 83 → ⊥)
+        → Settled B N l health (blocksFor B (file (s .table) i .size) p (length src)) free s (after B N l health (write number p src) s)
+    unfolding after
+    any-write {free} f p src some fits =
+        rw (calls.write-some B N l (s .image) health (s .window) (s .table) number p src tested i here (omega arith) fits (λ z. omega arith))
+        (λ n. told-code _ free (puts B N l health (s .table) (file (s .table) i) p src (s .window) (s .image)) n
+        (decided B N l health s a-valid a-size a-card (f .apart) (file (s .table) i) p src some fits most) (f .count))
+
+    -- A growing truncate.
+    pub any-truncate : {free : ℕ} → Free B N health s free → (size : ℕ) → file (s .table) i .size < size → size ≤ sizeMax
+        → (after B N l health (truncate number size) s .code ≡ negsuc 83 → ⊥)
+        → Settled B N l health (blocksFor B (file (s .table) i .size) (file (s .table) i .size) (size - file (s .table) i .size)) free s (after B N l health (truncate number size) s)
+    unfolding after
+    any-truncate {free} f size more fits =
+        let z = length-replicate {A = ℕ} (size - file (s .table) i .size) 0 in
+        let o = puts B N l health (s .table) (file (s .table) i) (file (s .table) i .size) (zeros (size - file (s .table) i .size)) (s .window) (s .image) in
+        rw (calls.truncate-more B N l (s .image) health (s .window) (s .table) number size tested i here fits (omega arith) (λ z. omega arith))
+        (λ n. subst (λ (k : ℕ). Settled B N l health (blocksFor B (file (s .table) i .size) (file (s .table) i .size) k) free s (storedIn (writtenOf (s .table) i o))) z
+        (told-code _ free o n
+        (decided B N l health s a-valid a-size a-card (f .apart) (file (s .table) i) (file (s .table) i .size) (zeros (size - file (s .table) i .size)) (omega arith) (omega arith) most)
+        (f .count)))
+
+-- ---- from a fresh window
+
+module _ (B N l start : ℕ) (health : List ℕ) (t : Table) (image : List ℕ)
     (tested : testedOf B N l (length image) health (freshOf start N) ≡ true) (number i : ℕ) (here : findOf t number ≡ found.At i) where
   abbrev s : State
   s = record { window = freshOf start N; table = t; image = image }
 
-  a-card : Card B N (length image)
-  a-card = card B N (length image) (tests B N l image health (freshOf start N) tested .card)
+  fresh-free : Free B N health s (goodFree B N health s)
+  fresh-free = none-left-free B N l health s tested (omega arith)
 
-  a-size : Sizes N l
-  a-size = looks N l (a-card .some) (a-card .few) (tests B N l image health (freshOf start N) tested .lookahead)
-
-  most : file t i .size ≤ sizeMax
-  most = file-most B N l image health (freshOf start N) t number i tested here
-
-  -- what the answer decides is what the code says
-  told-code : (needed free : ℕ) (v : Lookahead) (img : List ℕ) (a : Writing) → (storedIn (written t i a v img) .code ≡ negsuc 83 → ⊥)
-      → ((a ≡ Corrupt → ⊥) → Decided needed free a) → Exactly needed free (storedIn (written t i a v img) .code)
-  told-code needed free v img a n f =
-      let d = f (λ z. n (ap (λ (x : Writing). storedIn (written t i x v img) .code) z)) in
-      record {
-        full = λ u. ap (λ (x : Writing). storedIn (written t i x v img) .code) (d .full u);
-        enough = λ u. let z = d .enough u in ap (λ (x : Writing). storedIn (written t i x v img) .code) (z .2);
-      }
-
-  -- -28 EXACTLY. A write of at least one byte, whatever the lists are.
   pub write-exactly : (p : ℕ) (src : List ℕ) → 0 < length src → p + length src ≤ sizeMax → (after B N l health (write number p src) s .code ≡ negsuc 83 → ⊥)
       → Exactly (blocksFor B (file t i .size) p (length src)) (goodFree B N health s) (after B N l health (write number p src) s .code)
-  unfolding after listedIn
-  write-exactly p src some fits =
-      rw (calls.write-some B N l image health (freshOf start N) t number p src tested i here (omega arith) fits (λ z. omega arith))
-      (λ n. told-code _ _ _ _ (puts B N l health t (file t i) p src (freshOf start N) image .answer) n
-      (decided B N l start health t image below a-size a-card (file t i) p src some fits most))
+  write-exactly p src some fits n = any-write B N l health s tested number i here fresh-free p src some fits n .exactly
 
-  -- A growing truncate.
   pub truncate-exactly : (size : ℕ) → file t i .size < size → size ≤ sizeMax → (after B N l health (truncate number size) s .code ≡ negsuc 83 → ⊥)
       → Exactly (blocksFor B (file t i .size) (file t i .size) (size - file t i .size)) (goodFree B N health s) (after B N l health (truncate number size) s .code)
-  unfolding after listedIn
-  truncate-exactly size more fits =
-      let z = length-replicate {A = ℕ} (size - file t i .size) 0 in
-      let o = puts B N l health t (file t i) (file t i .size) (zeros (size - file t i .size)) (freshOf start N) image in
-      rw (calls.truncate-more B N l image health (freshOf start N) t number size tested i here fits (omega arith) (λ z. omega arith))
-      (λ n. subst (λ (k : ℕ). Exactly (blocksFor B (file t i .size) (file t i .size) k) (goodFree B N health s) (storedIn (writtenOf t i o) .code)) z
-      (told-code _ _ _ _ (o .answer) n
-      (decided B N l start health t image below a-size a-card (file t i) (file t i .size) (zeros (size - file t i .size)) (omega arith) (omega arith) most)))
+  truncate-exactly size more fits n = any-truncate B N l health s tested number i here fresh-free size more fits n .exactly
+
+-- ---- after -28
+
+module _ (B N l : ℕ) (health : List ℕ) (s s′ : State) (number i : ℕ) (here : findOf (s .table) number ≡ found.At i) (sp : Spent B N l health s s′) where
+  there : findOf (s′ .table) number ≡ found.At i
+  there = ap (λ (t : Table). findOf t number) (sp .table) ∙ here
+
+  -- From what -28 left, the same write or another, of that file: nothing is left of the window.
+  pub write-again : (p : ℕ) (src : List ℕ) → 0 < length src → p + length src ≤ sizeMax → (after B N l health (write number p src) s′ .code ≡ negsuc 83 → ⊥)
+      → Settled B N l health (blocksFor B (file (s .table) i .size) p (length src)) (goodFree B N health s′) s′ (after B N l health (write number p src) s′)
+  write-again p src some fits n =
+      subst (λ (t : Table). Settled B N l health (blocksFor B (file t i .size) p (length src)) (goodFree B N health s′) s′ (after B N l health (write number p src) s′)) (sp .table)
+      (any-write B N l health s′ (sp .tested) number i there (none-left-free B N l health s′ (sp .tested) (sp .none-left)) p src some fits n)
+
+  pub truncate-again : (size : ℕ) → file (s .table) i .size < size → size ≤ sizeMax → (after B N l health (truncate number size) s′ .code ≡ negsuc 83 → ⊥)
+      → Settled B N l health (blocksFor B (file (s .table) i .size) (file (s .table) i .size) (size - file (s .table) i .size)) (goodFree B N health s′) s′
+      (after B N l health (truncate number size) s′)
+  truncate-again size more fits n =
+      subst (λ (t : Table). Settled B N l health (blocksFor B (file t i .size) (file t i .size) (size - file t i .size)) (goodFree B N health s′) s′
+      (after B N l health (truncate number size) s′)) (sp .table)
+      (any-truncate B N l health s′ (sp .tested) number i there (none-left-free B N l health s′ (sp .tested) (sp .none-left))
+      size (rw (sp .table) more) fits n)

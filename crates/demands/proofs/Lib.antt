@@ -22,3 +22,4 @@ pub mod AnyVisits
 pub mod Exact
 pub mod Runs
 mod Examples
+mod Marked

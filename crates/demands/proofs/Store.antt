@@ -32,7 +32,7 @@ use Rattle.writes.specs.Allocator.{Stays}
 use Rattle.writes.specs.Plain.{plainWrite}
 use Rattle.writes.proofs.Writes as writes
 use Rattle.demands.proofs.Files.{bytes-is}
-use Rattle.demands.proofs.Windows.{Listed, InCall, ExactFor, goodsLeft, windowed, in-has}
+use Rattle.demands.proofs.Windows.{Listed, InCall, windowed, in-has}
 use Rattle.demands.specs.Came.{Among}
 use Rattle.demands.proofs.Tables.{listedBy, SoundFiles, of-sounds, listed-at, same-file, told-anew}
 
@@ -171,8 +171,7 @@ module _ (B N l : ℕ) (health : List ℕ) (t : Table) (w : Lookahead) (img : Li
   unfolding puts
   store-plain =
       go (writes.write-plain (lookIn B N e) B N health (λ (v : Lookahead). v .ckpoint) (windowAlloc B N l t) (Listed listed) Ok
-      (ExactFor N listed) (goodsLeft health N listed (start-call .base))
-      (windowed B N l health listed t sizes img (start-call .base)
+      (windowed B N l listed t sizes img (start-call .base)
       (λ img′ c st. told-here img′ (told-anew B N img img′ (long img′ c) (bf .sounds) st)))
       (jobOf e pos src) (checkpointOf w N) img given)
     where

@@ -4,6 +4,7 @@ use mathlib.Core.Logic.{_⊎_, inl, inr}
 use mathlib.Core.Bool.{Bool, true, false}
 use mathlib.Core.List.{List, [], _∷_}
 use Prim.Native.Nat.{ℕ, _+_, _-_, _%_, _≤_, _<_}
+use native.Mathlib.Nat.{mod-lt}
 use native.Mathlib.Omega.{arith}
 use lib.ListN.{length}
 use Rattle.card.specs.Card.{Card}
@@ -16,16 +17,16 @@ use Rattle.window.specs.declared.Answer.{Answer}
 use Rattle.window.specs.declared.Answer.the-variants as answer
 use Rattle.window.specs.Allocate.{allocOf}
 use Rattle.window.specs.Scan.{Seen, has}
-use Rattle.window.specs.Value.{Sizes}
+use Rattle.window.specs.Value.{Sizes, Valid}
 use Rattle.window.proofs.Cases.{no-both}
-use Rattle.windows.specs.Call.{Claim, Says, cleanly, exactly, On, Handed, View, handed, full, bad, Result, Lists, During, New}
-use Rattle.windows.specs.Space.{unlistedFrom, goodIn, bit}
+use Rattle.windows.specs.Call.{Claim, cleanly, On, Handed, View, handed, full, bad, Result, Lists, Shows, During, New, isBlock}
+use Rattle.windows.specs.Space.{Knows, unusedFrom, goodIn, bit}
 use Rattle.windows.proofs.Has.{has-head, has-tail}
-use Rattle.windows.proofs.Alloc.{alloc-view}
+use Rattle.windows.proofs.Alloc.{alloc-view, none-after}
 use Rattle.windows.proofs.InCall as incall
 use Rattle.windows.proofs.Exact.{view, handed-first, full-none, good-nil, good-cons}
 use Rattle.windows.proofs.Listed.{lists-tells}
-use Rattle.writes.specs.Allocator.{In, Known, Stays, bump, Taken, Allocator}
+use Rattle.writes.specs.Allocator.{In, Known, Stays, bump, Taken, Allocator, Drawn, Counter}
 use Rattle.alloc.specs.Visits.{seenIn}
 use Rattle.demands.specs.Space.{goodOf, goodBlock}
 
@@ -100,38 +101,25 @@ pub record InCall (B n l : ℕ) (listed img₀ : List ℕ) (base : ℕ) (w : Loo
   pub card : Card B n (length img)
   pub stays : Stays B (Listed listed) img₀ img
 
--- the good unlisted blocks that are yet to come
-abbrev pub goodsLeft : List ℕ → ℕ → List ℕ → ℕ → Lookahead → ℕ
-goodsLeft health n listed base w = goodIn (goodBlock health) (unlistedFrom base n listed (w .ckpoint))
+-- what a scan is told
+abbrev see : ℕ → ℕ → Table → List ℕ → Seen
+see B n t img = seenIn B n img t
 
--- where the marks are exact
-abbrev pub ExactFor : ℕ → List ℕ → Lookahead → Type 0
-ExactFor n listed w = Says (exactly listed) n w
+took : (B n l : ℕ) (t : Table) (w : Lookahead) (img : List ℕ) (r : Took Lookahead) → windowAlloc B n l t w img ≡ r
+    → tookOf (allocOf n l (see B n t img) w .answer) (allocOf n l (see B n t img) w .window) ≡ r
+unfolding windowAlloc
+took B n l t w img r e = e
 
-module _ (B n l : ℕ) (health listed : List ℕ) (t : Table) (z : Sizes n l) (img₀ : List ℕ) (base : ℕ)
+module _ (B n l : ℕ) (listed : List ℕ) (t : Table) (z : Sizes n l) (img₀ : List ℕ) (base : ℕ)
     (told : (img : List ℕ) → Card B n (length img) → Stays B (Listed listed) img₀ img → Lists n listed (seenIn B n img t)) where
-  -- what a scan is told
-  abbrev see : List ℕ → Seen
-  see img = seenIn B n img t
-
-  took : (w : Lookahead) (img : List ℕ) (r : Took Lookahead) → windowAlloc B n l t w img ≡ r
-      → tookOf (allocOf n l (see img) w .answer) (allocOf n l (see img) w .window) ≡ r
-  unfolding windowAlloc
-  took w img r e = e
-
   result : (w : Lookahead) (out img : List ℕ) → InCall B n l listed img₀ base w out img
-      → Result (cleanly listed) base n l (see img .ok) (w .ckpoint) (allocOf n l (see img) w)
+      → Result (cleanly listed) base n l (see B n t img .ok) (w .ckpoint) (allocOf n l (see B n t img) w)
   result w out img o =
       let tl = lists-tells (told img (o .card) (o .stays)) in
-      alloc-view (cleanly listed) base n l (see img) z (tl .low) (λ ok b e. tl .cover ok b e) w (o .during .valid) (o .during .clean) (o .on)
+      alloc-view (cleanly listed) base n l (see B n t img) z (tl .low) (λ ok b e. tl .cover ok b e) w (o .during .valid) (o .during .clean) (o .on)
 
-  exactly-result : (w : Lookahead) (out img : List ℕ) → InCall B n l listed img₀ base w out img → ExactFor n listed w
-      → Result (exactly listed) base n l (see img .ok) (w .ckpoint) (allocOf n l (see img) w)
-  exactly-result w out img o x = view n l listed (see img) z (told img (o .card) (o .stays)) base w (o .during .valid) x (o .on)
-
-  -- The window keeps the laws of an allocator: what it hands out is unlisted and new, and where its marks are exact it is short of blocks exactly if none is left.
-  pub windowed : Allocator B n health (λ (w : Lookahead). w .ckpoint) (windowAlloc B n l t) (Listed listed) (InCall B n l listed img₀ base)
-      (ExactFor n listed) (goodsLeft health n listed base)
+  -- The window keeps the laws of an allocator: what it hands out is unlisted and new.
+  pub windowed : Allocator B n (λ (w : Lookahead). w .ckpoint) (windowAlloc B n l t) (Listed listed) (InCall B n l listed img₀ base)
   windowed = record { taken = taken; none = none; never = never; frame = frame }
     where
       frame : (w : Lookahead) (out img img′ : List ℕ) → InCall B n l listed img₀ base w out img → Card B n (length img′)
@@ -139,23 +127,18 @@ module _ (B n l : ℕ) (health listed : List ℕ) (t : Table) (z : Sizes n l) (i
       frame w out img img′ o c s = record { during = o .during; on = o .on; card = c; stays = λ k p u h. s k p u h ∙ o .stays k p u h }
 
       taken : (w w′ : Lookahead) (out img : List ℕ) (k : ℕ) → InCall B n l listed img₀ base w out img → windowAlloc B n l t w img ≡ Block k w′
-          → Taken n health (λ (w : Lookahead). w .ckpoint) (Listed listed) (InCall B n l listed img₀ base) (ExactFor n listed) (goodsLeft health n listed base)
+          → Taken n (λ (w : Lookahead). w .ckpoint) (Listed listed) (InCall B n l listed img₀ base)
           w w′ out img k
       taken w w′ out img k o e =
-          let a = took-block (allocOf n l (see img) w .answer) (allocOf n l (see img) w .window) w′ k (took w img _ e) in
+          let a = took-block (allocOf n l (see B n t img) w .answer) (allocOf n l (see B n t img) w .window) w′ k (took B n l t w img _ e) in
           let tl = lists-tells (told img (o .card) (o .stays)) in
-          let nw = incall.new-block n l listed (see img) z tl k (o .during) (a .0) in
+          let nw = incall.new-block n l listed (see B n t img) z tl k (o .during) (a .0) in
           let v = view-block k (result w out img o .view) (a .0) in
           rw (← (a .1)) (record {
             low = nw .below;
             new = λ k′ u q. other nw k′ u q;
-            ok = record { during = incall.goes-on n l listed (see img) z tl k (o .during) (a .0); on = v .1; card = o .card; stays = o .stays };
+            ok = record { during = incall.goes-on n l listed (see B n t img) z tl k (o .during) (a .0); on = v .1; card = o .card; stays = o .stays };
             fewer = omega (arith, v .0 .from, v .0 .below);
-            exact = λ x. exactly-result w out img o x .says;
-            count = λ x.
-                let h = view-block k (exactly-result w out img o x .view) (a .0) .0 in
-                ap (goodIn (goodBlock health)) (handed-first base n listed (w .ckpoint) k (allocOf n l (see img) w .window .ckpoint) (o .during .valid .ck-le) h)
-                ∙ good-cons (goodBlock health) k _ ∙ sym (bump-is health k _);
           })
         where
           other : New n listed out k → (k′ : ℕ) → Known (Listed listed) out k′ → k ≡ k′ → ⊥
@@ -163,18 +146,71 @@ module _ (B n l : ℕ) (health listed : List ℕ) (t : Table) (z : Sizes n l) (i
           other nw k′ (inr u) q = no-both (has out k′) (in-has k′ out u) (subst (λ (x : ℕ). has out x ≡ false) q (nw .other))
 
       none : (w w′ : Lookahead) (out img : List ℕ) → InCall B n l listed img₀ base w out img → windowAlloc B n l t w img ≡ None w′
-          → InCall B n l listed img₀ base w′ out img × (ExactFor n listed w → goodsLeft health n listed base w ≡ 0)
+          → InCall B n l listed img₀ base w′ out img
       none w w′ out img o e =
-          let a = took-none (allocOf n l (see img) w .answer) (allocOf n l (see img) w .window) w′ (took w img _ e) in
+          let a = took-none (allocOf n l (see B n t img) w .answer) (allocOf n l (see B n t img) w .window) w′ (took B n l t w img _ e) in
           let tl = lists-tells (told img (o .card) (o .stays)) in
-          let v = view-none (result w out img o .view) (a .0) in (
-            subst (λ (u : Lookahead). InCall B n l listed img₀ base u out img) (a .1)
-                (record { during = incall.stays n l listed (see img) z tl (o .during) (a .0); on = v .1; card = o .card; stays = o .stays }),
-            λ x. let p = view-none (exactly-result w out img o x .view) (a .0) .0 in
-                ap (goodIn (goodBlock health)) (full-none base n listed (w .ckpoint) (o .during .valid .ck-le) p) ∙ good-nil (goodBlock health),
-          )
+          let v = view-none (result w out img o .view) (a .0) in
+          subst (λ (u : Lookahead). InCall B n l listed img₀ base u out img) (a .1)
+          (record { during = incall.stays n l listed (see B n t img) z tl (o .during) (a .0); on = v .1; card = o .card; stays = o .stays })
 
       never : (w w′ : Lookahead) (out img : List ℕ) → InCall B n l listed img₀ base w out img → windowAlloc B n l t w img ≡ Bad w′ → ⊥
       never w w′ out img o e =
-          no-both (see img .ok) (told img (o .card) (o .stays) .ok)
-          (view-bad (result w out img o .view) (took-bad (allocOf n l (see img) w .answer) (allocOf n l (see img) w .window) w′ (took w img _ e)))
+          no-both (see B n t img .ok) (told img (o .card) (o .stays) .ok)
+          (view-bad (result w out img o .view) (took-bad (allocOf n l (see B n t img) w .answer) (allocOf n l (see B n t img) w .window) w′ (took B n l t w img _ e)))
+
+-- ---- the count, from any window
+
+-- the blocks that the call finds used
+abbrev pub Used : (ℕ → Bool) → ℕ → Type 0
+Used used k = used k ≡ true
+
+-- within a call that began on the image img₀: what the window knows, and that the used blocks stand
+pub record Knowing (B n l : ℕ) (listed : List ℕ) (used : ℕ → Bool) (img₀ : List ℕ) (base : ℕ) (w : Lookahead) (img : List ℕ) : Type 0 where
+  pub knows : Knows n l listed used base w
+  pub card : Card B n (length img)
+  pub stays : Stays B (Used used) img₀ img
+
+-- the good blocks that are yet to come
+abbrev pub goodsLeft : List ℕ → ℕ → (ℕ → Bool) → ℕ → Lookahead → ℕ
+goodsLeft health n used base w = goodIn (goodBlock health) (unusedFrom base n used (w .ckpoint))
+
+-- what -28 leaves
+pub record UsedUp (B n l : ℕ) (w : Lookahead) (img : List ℕ) : Type 0 where
+  pub valid : Valid w n l
+  pub none-left : w .size ≤ w .next
+  pub card : Card B n (length img)
+
+module _ (B n l : ℕ) (health listed : List ℕ) (used : ℕ → Bool) (t : Table) (z : Sizes n l) (img₀ : List ℕ) (base : ℕ)
+    (told : (img : List ℕ) → Card B n (length img) → Stays B (Used used) img₀ img → Shows n listed (seenIn B n img t)) where
+  -- The window keeps the laws of a count: it hands out exactly the blocks that are not used.
+  pub counter : Counter B n health (λ (w : Lookahead). w .ckpoint) (windowAlloc B n l t) (Used used) (Knowing B n l listed used img₀ base)
+      (goodsLeft health n used base) (UsedUp B n l)
+  counter = record { taken = taken; none = none; frame = λ w img img′ o c s. record { knows = o .knows; card = c; stays = λ k p u h. s k p u h ∙ o .stays k p u h } }
+    where
+      taken : (w w′ : Lookahead) (img : List ℕ) (k : ℕ) → Knowing B n l listed used img₀ base w img → windowAlloc B n l t w img ≡ Block k w′
+          → Drawn n health (λ (w : Lookahead). w .ckpoint) (Used used) (Knowing B n l listed used img₀ base) (goodsLeft health n used base) w w′ img k
+      taken w w′ img k o e =
+          let a = took-block (allocOf n l (see B n t img) w .answer) (allocOf n l (see B n t img) w .window) w′ k (took B n l t w img _ e) in
+          let r = view n l listed used (see B n t img) z (told img (o .card) (o .stays)) base w (o .knows) in
+          let v = view-block k (r .0) (a .0) in
+          rw (← (a .1)) (record {
+            low = rw (v .0 .is) (mod-lt _ (z .n-pos));
+            new = λ k′ u q. no-both (used k′) u (subst (λ (x : ℕ). used x ≡ false) q (sym (v .0 .says)));
+            ok = record { knows = r .1 (ap isBlock (a .0)) (v .1); card = o .card; stays = o .stays };
+            fewer = omega (arith, v .0 .from, v .0 .below);
+            count =
+                ap (goodIn (goodBlock health)) (handed-first base n used (w .ckpoint) k (allocOf n l (see B n t img) w .window .ckpoint) (o .knows .valid .ck-le) (v .0))
+                ∙ good-cons (goodBlock health) k _ ∙ sym (bump-is health k _);
+          })
+
+      none : (w w′ : Lookahead) (img : List ℕ) → Knowing B n l listed used img₀ base w img → windowAlloc B n l t w img ≡ None w′
+          → (goodsLeft health n used base w ≡ 0) × UsedUp B n l w′ img
+      none w w′ img o e =
+          let a = took-none (allocOf n l (see B n t img) w .answer) (allocOf n l (see B n t img) w .window) w′ (took B n l t w img _ e) in
+          let tl = told img (o .card) (o .stays) in
+          let p = view-none (view n l listed used (see B n t img) z tl base w (o .knows) .0) (a .0) .0 in
+          let q = none-after n l (see B n t img) z (tl .low) w (o .knows .valid) (a .0) in (
+            ap (goodIn (goodBlock health)) (full-none base n used (w .ckpoint) (o .knows .valid .ck-le) p) ∙ good-nil (goodBlock health),
+            subst (λ (u : Lookahead). UsedUp B n l u img) (a .1) (record { valid = q .0; none-left = q .1; card = o .card }),
+          )

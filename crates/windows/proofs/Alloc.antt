@@ -6,6 +6,7 @@ use native.Mathlib.Nat.{mod-add-mod, add-mod-right}
 use native.Mathlib.Omega.{arith}
 use Rattle.window.specs.declared.Allocated.{Allocated}
 use Rattle.window.specs.declared.Answer.{Answer}
+use Rattle.window.specs.declared.Answer.the-variants.{NoSpace}
 use Rattle.window.specs.declared.Got.the-variants.{Block, Empty}
 use Rattle.window.specs.declared.Got.{Got}
 use Rattle.window.specs.declared.Lookahead.{Lookahead}
@@ -14,11 +15,11 @@ use Rattle.window.specs.Marks.{marked}
 use Rattle.window.specs.Scan.{Below, Seen, cleared, has, markOn, scanCase, scanOf}
 use Rattle.window.specs.Search.{freeFrom, moved, takeCase, takeOf}
 use Rattle.window.specs.Value.{Sizes, Valid}
-use Rattle.window.proofs.Cases.{eqb-cases, ltb-cases}
+use Rattle.window.proofs.Cases.{eqb-cases, ltb-cases, no-both}
 use Rattle.window.proofs.Kept.{cleared-valid, dropped-valid, map-valid, moved-valid}
 use Rattle.window.proofs.Search.{free-stops}
 use Rattle.window.proofs.Turns.{left, less}
-use Rattle.windows.specs.Call.{Claim, Handed, On, Passed, Result, Says, View, bad, full, handed}
+use Rattle.windows.specs.Call.{Claim, Handed, On, Passed, Result, Says, View, bad, full, handed, isBlock}
 use Rattle.windows.proofs.Circle.{shift}
 use Rattle.windows.proofs.Scan.{scan-exact}
 
@@ -49,6 +50,7 @@ pub record Sought (R : Claim) (base n l : ℕ) (w : Lookahead) (g : Got) (v : Lo
   pub valid : Valid v n l
   pub says : Says R n v
   pub on : On base n v
+  pub reach : n - w .ckpoint + (w .size - w .next) ≤ n - v .ckpoint + (v .size - v .next)
   pub how : Search R base n w g v
 
 module _ (R : Claim) (base n l : ℕ) (w : Lookahead) (g : Valid w n l) (s : Says R n w) (h : On base n w) where
@@ -85,6 +87,7 @@ module _ (R : Claim) (base n l : ℕ) (w : Lookahead) (g : Valid w n l) (s : Say
         valid = moved-valid g to (omega arith) (q .le);
         says = says-moved to (omega arith);
         on = moved-on base n l w to g h (omega arith) (q .le);
+        reach = omega arith;
         how = found (record {
           place = k;
           is = on-place base n w h at (p .ge);
@@ -100,6 +103,7 @@ module _ (R : Claim) (base n l : ℕ) (w : Lookahead) (g : Valid w n l) (s : Say
         valid = moved-valid g at (p .ge) (p .le);
         says = says-moved at (p .ge);
         on = moved-on base n l w at g h (p .ge) (p .le);
+        reach = omega (arith, p .ge, p .le);
         how = used (omega arith) (passes (n - w .ckpoint) _ (w .next) at (omega arith) (p .le) (omega arith) (omega arith) (p .passed));
       })
 
@@ -123,13 +127,26 @@ later R base n l ok c d {a} dc cn p r = record { valid = r .valid; says = r .say
     go (full z q o) = full z (join R base n (n - c) (n - d) n p q) o
     go (bad t z e) = bad t z e
 
-module _ (R : Claim) (base n l : ℕ) (seen : Seen) (z : Sizes n l) (low : Below n (seen .blocks)) (told : seen .ok ≡ true → (b : ℕ) → R b (has (seen .blocks) b)) where
+-- where a window that was used up stands
+past : (first n c d v : ℕ) → d ≤ c → c ≤ n → v ≡ c - d → first ≤ n - c + d → first ≤ n - v
+past first n c d v a b e h = omega arith
+
+further : (first n u v x : ℕ) → u ≡ v → first ≤ n - v → first ≤ n - u + x
+further first n u v x e h = omega arith
+
+-- Told what is so of the places from `first` on: those beyond what is left of the window.
+module _ (R : Claim) (base n l : ℕ) (seen : Seen) (z : Sizes n l) (low : Below n (seen .blocks)) (first : ℕ)
+    (told : seen .ok ≡ true → (k : ℕ) → first ≤ k → k < n → R ((base + k) % n) (has (seen .blocks) ((base + k) % n))) where
+  -- the result, and what is left of a window that handed out a block reaches to `first` too
+  abbrev Reached : ℕ → Allocated → Type 0
+  Reached c a = Result R base n l (seen .ok) c a × (isBlock (a .answer) ≡ true → first ≤ n - a .window .ckpoint + (a .window .size - a .window .next))
+
   -- after a search that used the window up: what the scan and the rest say
-  on-scan : (v : Lookahead) (F : Lookahead → Allocated) → Valid v n l → On base n v
-      → ((u : Lookahead) → Valid u n l → Says R n u → On base n u → left u ≡ v .ckpoint + (1 - (min (8 * l) (v .ckpoint) - 0)) → u .ckpoint ≡ v .ckpoint → Result R base n l (seen .ok) (u .ckpoint) (F u))
-      → Result R base n l (seen .ok) (v .ckpoint) (onScan (scanOf n l seen v) F)
+  on-scan : (v : Lookahead) (F : Lookahead → Allocated) → Valid v n l → On base n v → first ≤ n - v .ckpoint
+      → ((u : Lookahead) → Valid u n l → Says R n u → On base n u → left u ≡ v .ckpoint + (1 - (min (8 * l) (v .ckpoint) - 0)) → u .ckpoint ≡ v .ckpoint → Reached (u .ckpoint) (F u))
+      → Reached (v .ckpoint) (onScan (scanOf n l seen v) F)
   unfolding scanOf cleared
-  on-scan v F g h k = go (seen .ok) refl
+  on-scan v F g h f k = go (seen .ok) refl
     where
       plus-zero : v .start + v .next + 0 ≡ v .start + v .next
       plus-zero = omega arith
@@ -137,35 +154,57 @@ module _ (R : Claim) (base n l : ℕ) (seen : Seen) (z : Sizes n l) (low : Below
       c : Valid (cleared v n l) n l
       c = cleared-valid g
 
-      go : (t : Bool) → seen .ok ≡ t → Result R base n l (seen .ok) (v .ckpoint) (onScan (scanCase t (markOn (cleared v n l) n (seen .blocks)) n) F)
-      go true ok = k (markOn (cleared v n l) n (seen .blocks)) (map-valid c _)
-          (λ o a b. rw (scan-exact n l v (seen .blocks) z g low o b) (told ok _))
-          (mod-add-mod (v .start + v .next) n 0 ∙ ap (λ (x : ℕ). x % n) plus-zero ∙ h)
-          refl refl
-      go false ok = record { valid = dropped-valid (map-valid c _); says = λ o a b. absurd (omega arith); view = bad ok refl refl }
+      on : On base n (cleared v n l)
+      on = mod-add-mod (v .start + v .next) n 0 ∙ ap (λ (x : ℕ). x % n) plus-zero ∙ h
 
-  on-got : (w : Lookahead) (q : Got) (v : Lookahead) (F : Lookahead → Allocated) → Valid w n l → Sought R base n l w q v
-      → ((v .ckpoint ≡ 0 → ⊥) → v .ckpoint ≡ w .ckpoint - (w .size - w .next) → Result R base n l (seen .ok) (v .ckpoint) (F v))
-      → Result R base n l (seen .ok) (w .ckpoint) (onGot q v F)
-  on-got w q v F g r k = go (r .how) k
+      go : (t : Bool) → seen .ok ≡ t → Reached (v .ckpoint) (onScan (scanCase t (markOn (cleared v n l) n (seen .blocks)) n) F)
+      go true ok = k (markOn (cleared v n l) n (seen .blocks)) (map-valid c _)
+          (λ o a b. rw (scan-exact n l v (seen .blocks) z g low o b, on-place base n (cleared v n l) on o a)
+          (told ok (n - v .ckpoint + (o - 0)) (omega arith) (omega (arith, g .ck-le))))
+          on refl refl
+      go false ok = (record { valid = dropped-valid (map-valid c _); says = λ o a b. absurd (omega arith); view = bad ok refl refl }, λ e. absurd (no-both false e refl))
+
+  on-got : (w : Lookahead) (q : Got) (v : Lookahead) (F : Lookahead → Allocated) → Valid w n l → first ≤ n - w .ckpoint + (w .size - w .next) → Sought R base n l w q v
+      → ((v .ckpoint ≡ 0 → ⊥) → v .ckpoint ≡ w .ckpoint - (w .size - w .next) → Reached (v .ckpoint) (F v))
+      → Reached (w .ckpoint) (onGot q v F)
+  on-got w q v F g m r k = go (r .how) k
     where
       go : {p : Got} → Search R base n w p v
-          → ((v .ckpoint ≡ 0 → ⊥) → v .ckpoint ≡ w .ckpoint - (w .size - w .next) → Result R base n l (seen .ok) (v .ckpoint) (F v))
-          → Result R base n l (seen .ok) (w .ckpoint) (onGot p v F)
-      go (found f) k = record { valid = r .valid; says = r .says; view = handed f (r .on) }
-      go (used e p) k = eqb-cases (v .ckpoint) 0 (λ t. Result R base n l (seen .ok) (w .ckpoint) (usedUp t v F))
-          (λ o. record { valid = r .valid; says = r .says; view = full o (λ j lo hi. p j lo (omega arith)) (r .on) })
-          (λ o. later R base n l (seen .ok) (w .ckpoint) (v .ckpoint) (omega arith) (g .ck-le) p (k o e))
+          → ((v .ckpoint ≡ 0 → ⊥) → v .ckpoint ≡ w .ckpoint - (w .size - w .next) → Reached (v .ckpoint) (F v))
+          → Reached (w .ckpoint) (onGot p v F)
+      go (found f) k = (record { valid = r .valid; says = r .says; view = handed f (r .on) }, λ e. omega (arith, r .reach))
+      go (used e p) k = eqb-cases (v .ckpoint) 0 (λ t. Reached (w .ckpoint) (usedUp t v F))
+          (λ o. (record { valid = r .valid; says = r .says; view = full o (λ j lo hi. p j lo (omega arith)) (r .on) }, λ e. absurd (no-both false e refl)))
+          (λ o. let x = k o e in (later R base n l (seen .ok) (w .ckpoint) (v .ckpoint) (omega arith) (g .ck-le) p (x .0), x .1))
 
-  alloc-by : (f : ℕ) (w : Lookahead) → Valid w n l → Says R n w → On base n w → left w ≤ f → Result R base n l (seen .ok) (w .ckpoint) (allocBy f n l seen w)
+  alloc-by : (f : ℕ) (w : Lookahead) → Valid w n l → Says R n w → On base n w → first ≤ n - w .ckpoint + (w .size - w .next) → left w ≤ f
+      → Reached (w .ckpoint) (allocBy f n l seen w)
   unfolding allocBy
-  alloc-by zero w g s h e = absurd (omega (arith, g .left-le))
-  alloc-by (suc f) w g s h e =
+  alloc-by zero w g s h m e = absurd (omega (arith, g .left-le))
+  alloc-by (suc f) w g s h m e =
       let r = sought R base n l w g s h in
-      on-got w _ _ _ g r (λ o q. on-scan _ _ (r .valid) (r .on)
-      (λ u gu su hu eu cu. alloc-by f u gu su hu (omega (arith, less l (w .ckpoint) (w .size - w .next) _ (g .left-le) q o (z .l-ge)))))
+      on-got w _ _ _ g m r (λ o q.
+      let m′ = past first n (w .ckpoint) (w .size - w .next) _ (g .left-le) (g .ck-le) q m in
+      on-scan _ _ (r .valid) (r .on) m′
+      (λ u gu su hu eu cu. alloc-by f u gu su hu (further first n _ _ (u .size - u .next) cu m′) (omega (arith, less l (w .ckpoint) (w .size - w .next) _ (g .left-le) q o (z .l-ge)))))
 
   -- THEOREM. One allocation, from a valid window that says the truth and stands on the circle of base.
-  pub alloc-view : (w : Lookahead) → Valid w n l → Says R n w → On base n w → Result R base n l (seen .ok) (w .ckpoint) (allocOf n l seen w)
+  pub alloc-from : (w : Lookahead) → Valid w n l → Says R n w → On base n w → first ≤ n - w .ckpoint + (w .size - w .next) → Reached (w .ckpoint) (allocOf n l seen w)
   unfolding allocOf
-  alloc-view w g s h = alloc-by (w .ckpoint + 2) w g s h (omega arith)
+  alloc-from w g s h m = alloc-by (w .ckpoint + 2) w g s h m (omega arith)
+
+-- The same, told what is so of every block.
+pub alloc-view : (R : Claim) (base n l : ℕ) (seen : Seen) → Sizes n l → Below n (seen .blocks) → (seen .ok ≡ true → (b : ℕ) → R b (has (seen .blocks) b))
+    → (w : Lookahead) → Valid w n l → Says R n w → On base n w → Result R base n l (seen .ok) (w .ckpoint) (allocOf n l seen w)
+alloc-view R base n l seen z low told w g s h = alloc-from R base n l seen z low 0 (λ ok k _ _. told ok _) w g s h (omega arith) .0
+
+-- THEOREM. -28 leaves a window with nothing left, whatever window it was.
+pub none-after : (n l : ℕ) (seen : Seen) → Sizes n l → Below n (seen .blocks) → (w : Lookahead) → Valid w n l → allocOf n l seen w .answer ≡ NoSpace
+    → Valid (allocOf n l seen w .window) n l × (allocOf n l seen w .window .size ≤ allocOf n l seen w .window .next)
+none-after n l seen z low w g e =
+    let r = alloc-view (λ b t. _≡_ {A = ℕ} 0 0) _ n l seen z low (λ ok b. refl) w g (λ o a b. refl) (some-on n l w g) in (r .valid, go (r .valid) (r .view) e)
+  where
+    go : {R : Claim} {base : ℕ} {q : Answer} {v : Lookahead} → Valid v n l → View R base n (seen .ok) (w .ckpoint) q v → q ≡ NoSpace → v .size ≤ v .next
+    go gv (handed _ _) e = let y : _≡_ {A = ℕ} 0 1 = cc in absurd (omega arith)
+    go gv (full c _ _) e = omega (arith, gv .left-le)
+    go gv (bad _ _ _) e = let y : _≡_ {A = ℕ} 0 1 = cc in absurd (omega arith)

@@ -2,41 +2,41 @@
 use mathlib.Core.Path.{_≡_, refl, ap, _∙_, sym}
 use mathlib.Core.Bool.{Bool, false}
 use mathlib.Core.List.{List, [], _∷_}
-use Prim.Native.Nat.{ℕ, suc, _+_, _≤_}
+use Prim.Native.Nat.{ℕ, suc, _+_}
 use native.Mathlib.Omega.{arith}
 use lib.Dec.{leb}
 use borrow.Author.Tests.{le-leb, lt-leb}
 use Rattle.window.specs.declared.Lookahead.{Lookahead}
 use Rattle.window.specs.Value.{Sizes, Valid, checkpointOf}
 use Rattle.windows.specs.Call.{Became, Came, During, Run, fewer, isBlock, more, start, stopped, wrote}
-use Rattle.windows.specs.Space.{Exactly, Needs, bad-one, bit, done, good-one, goodIn, goodUnlisted, no-space, onto}
-use Rattle.windows.proofs.Exact.{good-cons, good-nil}
+use Rattle.windows.specs.Space.{Exactly, Needs, bad-one, bit, done, good-one, goodIn, goodUnused, no-space, onto, usedFor}
+use Rattle.windows.proofs.Exact.{good-cons, good-nil, lists-shows}
 use Rattle.windows.proofs.InCall.{goes-on, stays}
 use Rattle.windows.proofs.Listed.{lists-tells}
 use Rattle.windows.proofs.Space.{exact-begins, exact-full, exact-goes}
 
--- THEOREM. Blocks are asked for until m good ones came, by steps of any kind: that fails with -28 exactly if fewer than m good unlisted blocks exist.
-needs-from : {n l : ℕ} {listed : List ℕ} {good : ℕ → Bool} {m : ℕ} {w v : Lookahead} {out : List ℕ} {r : Bool} (before : List ℕ) → Sizes n l
-    → Exactly n l listed w before → Needs n l listed good m w out v r → r ≡ leb (goodIn good before + m) (goodUnlisted good listed n)
-needs-from {n} {l} {listed} {good} before z s done = sym (le-leb (goodIn good before + 0) (goodUnlisted good listed n) (omega (arith, s .all good)))
-needs-from {n} {l} {listed} {good} {r = r} before z s (good-one {m = m} b seen t e g rest) =
-    let i = needs-from (b ∷ before) z (exact-goes n l listed seen z t b s e) rest in
+-- THEOREM. Blocks are asked for until m good ones came, by steps of any kind: that fails with -28 exactly if fewer than m good blocks are not used.
+needs-from : {n l : ℕ} {listed : List ℕ} {used good : ℕ → Bool} {m : ℕ} {w v : Lookahead} {out : List ℕ} {r : Bool} (before : List ℕ) → Sizes n l
+    → Exactly n l listed used w before → Needs n l listed good m w out v r → r ≡ leb (goodIn good before + m) (goodUnused good used n)
+needs-from {n} {l} {listed} {used} {good} before z s done = sym (le-leb (goodIn good before + 0) (goodUnused good used n) (omega (arith, s .all good)))
+needs-from {n} {l} {listed} {used} {good} {r = r} before z s (good-one {m = m} b seen t e g rest) =
+    let i = needs-from (b ∷ before) z (exact-goes n l listed used seen z (lists-shows t) b s e) rest in
     let j : bit (good b) ≡ 1 = ap (λ (x : Bool). bit x) g in
     let k : goodIn good (b ∷ before) + m ≡ goodIn good before + suc m = omega (arith, good-cons good b before) in
-    i ∙ ap (λ (x : ℕ). leb x (goodUnlisted good listed n)) k
-needs-from {n} {l} {listed} {good} {r = r} before z s (bad-one {m = m} b seen t e g rest) =
-    let i = needs-from (b ∷ before) z (exact-goes n l listed seen z t b s e) rest in
+    i ∙ ap (λ (x : ℕ). leb x (goodUnused good used n)) k
+needs-from {n} {l} {listed} {used} {good} {r = r} before z s (bad-one {m = m} b seen t e g rest) =
+    let i = needs-from (b ∷ before) z (exact-goes n l listed used seen z (lists-shows t) b s e) rest in
     let j : bit (good b) ≡ 0 = ap (λ (x : Bool). bit x) g in
     let k : goodIn good (b ∷ before) + suc m ≡ goodIn good before + suc m = omega (arith, good-cons good b before) in
-    i ∙ ap (λ (x : ℕ). leb x (goodUnlisted good listed n)) k
-needs-from {n} {l} {listed} {good} before z s (no-space {m = m} seen t e) =
-    sym (lt-leb (goodIn good before + suc m) (goodUnlisted good listed n) (omega (arith, exact-full n l listed seen z t good s e)))
+    i ∙ ap (λ (x : ℕ). leb x (goodUnused good used n)) k
+needs-from {n} {l} {listed} {used} {good} before z s (no-space {m = m} seen t e) =
+    sym (lt-leb (goodIn good before + suc m) (goodUnused good used n) (omega (arith, exact-full n l listed used seen z (lists-shows t) good s e)))
 
-pub needs-exact : {n l : ℕ} {listed : List ℕ} {good : ℕ → Bool} {m : ℕ} {w v : Lookahead} {out : List ℕ} {r : Bool} → Sizes n l → Valid w n l → w .size ≤ w .next
-    → Needs n l listed good m (checkpointOf w n) out v r → r ≡ leb m (goodUnlisted good listed n)
-needs-exact {n} {l} {listed} {good} {m} {w = w} z g h q =
+pub needs-exact : {n l : ℕ} {listed : List ℕ} {good : ℕ → Bool} {m : ℕ} {w v : Lookahead} {out : List ℕ} {r : Bool} → Sizes n l → Valid w n l
+    → Needs n l listed good m (checkpointOf w n) out v r → r ≡ leb m (goodUnused good (usedFor n listed w) n)
+needs-exact {n} {l} {listed} {good} {m} {w = w} z g q =
     let e : goodIn good [] + m ≡ m = omega (arith, good-nil good) in
-    needs-from [] z (exact-begins n l listed w g h) q ∙ ap (λ (x : ℕ). leb x (goodUnlisted good listed n)) e
+    needs-from [] z (exact-begins n l listed w g) q ∙ ap (λ (x : ℕ). leb x (goodUnused good (usedFor n listed w) n)) e
 
 -- THEOREM. And on any window: they are different, unlisted, below N, and no more in the window.
 pub needs-during : {n l : ℕ} {listed : List ℕ} {good : ℕ → Bool} {m : ℕ} {w v : Lookahead} {out : List ℕ} {r : Bool} (before : List ℕ) → Sizes n l

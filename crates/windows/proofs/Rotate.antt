@@ -5,8 +5,7 @@ use mathlib.Core.List.{List}
 use Prim.Native.Nat.{ℕ, zero, suc, _+_, _-_, _%_, _≤_, _<_}
 use native.Mathlib.Nat.{mod-eq-of-lt, add-mod-left}
 use native.Mathlib.Omega.{arith}
-use Rattle.window.specs.Scan.{has}
-use Rattle.windows.specs.Space.{bit, goodIn, goodUnlisted, spare, tally, unless, unlistedFrom}
+use Rattle.windows.specs.Space.{bit, goodIn, goodUnused, spare, tally, unless, unusedFrom}
 
 tally-split : (p : ℕ → Bool) (j k a : ℕ) → tally p a (j + k) ≡ tally p a j + tally p (a + j) k
 unfolding tally
@@ -19,7 +18,7 @@ tally-split p (suc j) k a =
     let f : a + suc j ≡ suc a + j = omega arith in
     rw (e, f) (omega (arith, tally-split p j k (suc a)))
 
-tally-same : (p q : ℕ → Bool) (k a b : ℕ) → ((i : ℕ) → i < k → p (a + i) ≡ q (b + i)) → tally p a k ≡ tally q b k
+pub tally-same : (p q : ℕ → Bool) (k a b : ℕ) → ((i : ℕ) → i < k → p (a + i) ≡ q (b + i)) → tally p a k ≡ tally q b k
 unfolding tally
 tally-same p q zero a b h = refl
 tally-same p q (suc k) a b h =
@@ -59,20 +58,20 @@ unfolding goodIn
 unless-good good true b bs = omega arith
 unless-good good false b bs = refl
 
-from-tally : (good : ℕ → Bool) (base n : ℕ) (listed : List ℕ) (c : ℕ) → c ≤ n
-    → goodIn good (unlistedFrom base n listed c) ≡ tally (λ k. spare good listed ((base + k) % n)) (n - c) c
-unfolding unlistedFrom tally goodIn
-from-tally good base n listed zero h = refl
-from-tally good base n listed (suc c) h =
+from-tally : (good : ℕ → Bool) (base n : ℕ) (used : ℕ → Bool) (c : ℕ) → c ≤ n
+    → goodIn good (unusedFrom base n used c) ≡ tally (λ k. spare good used ((base + k) % n)) (n - c) c
+unfolding unusedFrom tally goodIn
+from-tally good base n used zero h = refl
+from-tally good base n used (suc c) h =
     let e : suc (n - suc c) ≡ n - c = omega arith in
-    unless-good good (has listed ((base + (n - suc c)) % n)) ((base + (n - suc c)) % n) (unlistedFrom base n listed c)
-    ∙ ap (λ (x : ℕ). bit (spare good listed ((base + (n - suc c)) % n)) + x)
-    (from-tally good base n listed c (omega arith) ∙ ap (λ (x : ℕ). tally (λ k. spare good listed ((base + k) % n)) x c) (sym e))
+    unless-good good (used ((base + (n - suc c)) % n)) ((base + (n - suc c)) % n) (unusedFrom base n used c)
+    ∙ ap (λ (x : ℕ). bit (spare good used ((base + (n - suc c)) % n)) + x)
+    (from-tally good base n used c (omega arith) ∙ ap (λ (x : ℕ). tally (λ k. spare good used ((base + k) % n)) x c) (sym e))
 
--- THEOREM. Of the whole circle, whatever its base, as many are good as the card has good unlisted blocks.
-pub whole-circle : (good : ℕ → Bool) (base n : ℕ) (listed : List ℕ) → base < n → goodIn good (unlistedFrom base n listed n) ≡ goodUnlisted good listed n
-whole-circle good base n listed h =
+-- THEOREM. Of the whole circle, whatever its base, as many are good as the card has good blocks that are not used.
+pub whole-circle : (good : ℕ → Bool) (base n : ℕ) (used : ℕ → Bool) → base < n → goodIn good (unusedFrom base n used n) ≡ goodUnused good used n
+whole-circle good base n used h =
     let e : n - n ≡ 0 = omega arith in
-    from-tally good base n listed n (omega arith)
-    ∙ ap (λ (x : ℕ). tally (λ k. spare good listed ((base + k) % n)) x n) e
-    ∙ rotate (λ b. spare good listed b) base n h
+    from-tally good base n used n (omega arith)
+    ∙ ap (λ (x : ℕ). tally (λ k. spare good used ((base + k) % n)) x n) e
+    ∙ rotate (λ b. spare good used b) base n h

@@ -13,7 +13,7 @@ use Rattle.window.specs.Marks.{markAll, markMap}
 use Rattle.window.specs.Scan.{Seen, cleared, has, scanOf}
 use Rattle.window.specs.Search.{freeFrom, skip, takeOf}
 use Rattle.window.specs.Value.{freshOf}
-use Rattle.windows.specs.Space.{askOf, goodUnlisted, tally, unlistedFrom}
+use Rattle.windows.specs.Space.{askOf, goodUnlisted, tally, unusedFrom}
 
 abbrev some : Seen
 some = record { blocks = 0 ∷ 1 ∷ 4 ∷ []; ok = true }
@@ -52,8 +52,8 @@ unfolding allocOf allocBy takeOf freeFrom skip cleared markAll markMap scanOf
 damaged = refl
 
 -- what is left to hand out from a fresh window at 3, and that asking for more of them fails
-circle : unlistedFrom 3 10 (some .blocks) 10 ≡ 3 ∷ 5 ∷ 6 ∷ 7 ∷ 8 ∷ 9 ∷ 2 ∷ []
-unfolding unlistedFrom has
+circle : unusedFrom 3 10 (has (some .blocks)) 10 ≡ 3 ∷ 5 ∷ 6 ∷ 7 ∷ 8 ∷ 9 ∷ 2 ∷ []
+unfolding unusedFrom has
 circle = refl
 
 asks : (askOf 11 (λ b. true) 10 8 some 7 (freshOf 3 10) ≡ true) × (askOf 11 (λ b. true) 10 8 some 8 (freshOf 3 10) ≡ false) × (goodUnlisted (λ b. true) (some .blocks) 10 ≡ 7)

@@ -24,9 +24,9 @@ Says R n w = (o : ℕ) → w .next ≤ o → o < w .size → R ((w .start + o) %
 abbrev pub cleanly : List ℕ → Claim
 cleanly bs b t = t ≡ false → has bs b ≡ false
 
--- a block is marked exactly if it is listed
-abbrev pub exactly : List ℕ → Claim
-exactly bs b t = t ≡ has bs b
+-- a block is marked exactly if it is used
+abbrev pub exactly : (ℕ → Bool) → Claim
+exactly used b t = t ≡ used b
 
 -- THE INVARIANT. Each block that the window still has and that is not marked is not listed.
 abbrev pub Clean : ℕ → List ℕ → Lookahead → Type 0
@@ -72,6 +72,11 @@ pub record Lists (n : ℕ) (listed : List ℕ) (seen : Seen) : Type 0 where
   pub low : Below n (seen .blocks)
   pub ok : seen .ok ≡ true
   pub same : (b : ℕ) → has (seen .blocks) b ≡ has listed b
+
+-- a visit may fail; if none does, what they hand over is exactly what is listed
+pub record Shows (n : ℕ) (listed : List ℕ) (seen : Seen) : Type 0 where
+  pub low : Below n (seen .blocks)
+  pub same : seen .ok ≡ true → (b : ℕ) → has (seen .blocks) b ≡ has listed b
 
 -- blocks handed out, the last first, at places of the circle that fall and are below d
 pub data Places (base n : ℕ) : ℕ → List ℕ → Type 0 where

@@ -1,12 +1,14 @@
--- What is left to hand out: the unlisted blocks in circular order, and how many of them are good.
-use Prim.Native.Nat.{ℕ, zero, suc, _+_, _-_, _%_, _<_}
+-- What is left to hand out: the blocks that are not used, in circular order, and how many of them are good.
+use Prim.Native.Nat.{ℕ, zero, suc, _+_, _-_, _%_, _≤_, _<_}
 use mathlib.Core.Path.{_≡_}
-use mathlib.Core.Bool.{Bool, true, false}
+use mathlib.Core.Bool.{Bool, true, false, _&&_}
 use mathlib.Core.List.{List, [], _∷_}
+use lib.Dec.{leb, ltb}
 use Rattle.window.specs.declared.Answer.the-variants as answer
 use Rattle.window.specs.declared.Answer.{Answer}
 use Rattle.window.specs.declared.Lookahead.{Lookahead}
 use Rattle.window.specs.Allocate.{allocOf}
+use Rattle.window.specs.Marks.{marked, offsetOf}
 use Rattle.window.specs.Scan.{Seen, has}
 use Rattle.window.specs.Value.{Valid}
 use Rattle.windows.specs.Call.{Lists, On, Says, exactly}
@@ -15,10 +17,22 @@ abbrev pub unless : Bool → ℕ → List ℕ → List ℕ
 unless true b bs = bs
 unless false b bs = b ∷ bs
 
--- the unlisted ones of the last c blocks of the circle that starts at base: those at the places n - c up to n
-unfoldable pub unlistedFrom : ℕ → ℕ → List ℕ → ℕ → List ℕ
-unlistedFrom base n listed zero = []
-unlistedFrom base n listed (suc c) = unless (has listed ((base + (n - suc c)) % n)) ((base + (n - suc c)) % n) (unlistedFrom base n listed c)
+-- block b lies in what is left of a window
+abbrev pub leftIn : ℕ → Lookahead → ℕ → Bool
+leftIn n w b = leb (w .next) (offsetOf (w .start) b n) && ltb (offsetOf (w .start) b n) (w .size)
+
+-- What a call from window w finds used: in what is left of the window the marked blocks, and outside it the listed ones.
+unfoldable pub usedFor : ℕ → List ℕ → Lookahead → ℕ → Bool
+usedFor n listed w b = elim (leftIn n w b) [ true ↦ marked (w .map) (offsetOf (w .start) b n) | false ↦ has listed b ]
+
+-- a block that lies in what is left of the window and is marked there
+abbrev pub markedIn : ℕ → Lookahead → ℕ → Bool
+markedIn n w b = leftIn n w b && marked (w .map) (offsetOf (w .start) b n)
+
+-- those of the last c blocks of the circle that starts at base which are not used: at the places n - c up to n
+unfoldable pub unusedFrom : ℕ → ℕ → (ℕ → Bool) → ℕ → List ℕ
+unusedFrom base n used zero = []
+unusedFrom base n used (suc c) = unless (used ((base + (n - suc c)) % n)) ((base + (n - suc c)) % n) (unusedFrom base n used c)
 
 abbrev pub bit : Bool → ℕ
 bit true = 1
@@ -29,17 +43,21 @@ unfoldable pub goodIn : (ℕ → Bool) → List ℕ → ℕ
 goodIn good [] = 0
 goodIn good (b ∷ bs) = bit (good b) + goodIn good bs
 
-abbrev pub spare : (ℕ → Bool) → List ℕ → ℕ → Bool
-spare good listed b = elim (has listed b) [ true ↦ false | false ↦ good b ]
+abbrev pub spare : (ℕ → Bool) → (ℕ → Bool) → ℕ → Bool
+spare good used b = elim (used b) [ true ↦ false | false ↦ good b ]
 
--- how many blocks from a on, k of them, are good and unlisted
+-- how many blocks from a on, k of them, have p
 unfoldable pub tally : (ℕ → Bool) → ℕ → ℕ → ℕ
 tally p a zero = 0
 tally p a (suc k) = bit (p a) + tally p (suc a) k
 
--- how many good unlisted blocks the card of n blocks has
+-- how many good blocks the card of n blocks has that are not used
+abbrev pub goodUnused : (ℕ → Bool) → (ℕ → Bool) → ℕ → ℕ
+goodUnused good used n = tally (spare good used) 0 n
+
+-- and that are not listed
 abbrev pub goodUnlisted : (ℕ → Bool) → List ℕ → ℕ → ℕ
-goodUnlisted good listed n = tally (spare good listed) 0 n
+goodUnlisted good listed n = goodUnused good (has listed) n
 
 -- allocation asked again and again until it answers -28: the blocks handed out, in order
 pub data Spent (n l : ℕ) (seen : Seen) : Lookahead → List ℕ → Lookahead → Type 0 where
@@ -62,15 +80,19 @@ askOf zero good n l seen m w = false
 askOf (suc f) good n l seen m w =
     enough m (onAnswer (allocOf n l seen w .answer) (λ b. askOf f good n l seen (m - bit (good b)) (allocOf n l seen w .window)))
 
--- WITHIN ONE CALL that began with nothing left in the window (a fresh one), where no visit fails: the blocks `out` were handed out, the last first.
--- `all` holds for every choice of the good ones.
-pub record Exactly (n l : ℕ) (listed : List ℕ) (w : Lookahead) (out : List ℕ) : Type 1 where
+-- On the circle of base, the marks of window w say what is used, and beyond what is left of it that is what is listed.
+pub record Knows (n l : ℕ) (listed : List ℕ) (used : ℕ → Bool) (base : ℕ) (w : Lookahead) : Type 0 where
+  pub valid : Valid w n l
+  pub says : Says (exactly used) n w
+  pub on : On base n w
+  pub later : (k : ℕ) → n - w .ckpoint + (w .size - w .next) ≤ k → k < n → has listed ((base + k) % n) ≡ used ((base + k) % n)
+
+-- WITHIN ONE CALL, from any window: the blocks `out` were handed out, the last first. `all` holds for every choice of the good ones.
+pub record Exactly (n l : ℕ) (listed : List ℕ) (used : ℕ → Bool) (w : Lookahead) (out : List ℕ) : Type 1 where
   pub base : ℕ
   pub base-lt : base < n
-  pub valid : Valid w n l
-  pub says : Says (exactly listed) n w
-  pub on : On base n w
-  pub all : (good : ℕ → Bool) → goodUnlisted good listed n ≡ goodIn good out + goodIn good (unlistedFrom base n listed (w .ckpoint))
+  pub knows : Knows n l listed used base w
+  pub all : (good : ℕ → Bool) → goodUnused good used n ≡ goodIn good out + goodIn good (unusedFrom base n used (w .ckpoint))
 
 -- a list in order onto one that has the last first
 abbrev pub onto : List ℕ → List ℕ → List ℕ

@@ -2,7 +2,7 @@
 use mathlib.Core.Path.{_≡_, refl}
 use mathlib.Core.Logic.{_⊎_, inl, inr}
 use mathlib.Core.Bool.{Bool, true, false}
-use mathlib.Core.List.{List, []}
+use mathlib.Core.List.{List}
 use Prim.Native.Nat.{ℕ, zero, suc, _+_, _-_, _^_, _≤_, _<_}
 use native.Mathlib.Omega.{arith}
 use borrow.Author.Tests.{ltb-true, ltb-false, lt-ltb, le-ltb}
@@ -11,10 +11,10 @@ use lib.ListN.{length}
 use Rattle.layout.specs.Layout.{indexAt, offsetAt}
 use Rattle.card.specs.Card.{Card}
 use Rattle.device.specs.Device.{refusesProgram}
-use Rattle.grow.specs.Supply.{Took, Bad}
+use Rattle.grow.specs.Supply.{Took}
 use Rattle.grow.specs.Grow.{GrowOut, part, growOf}
 use Rattle.store.specs.Write.{Job, new, kept, over, Written, NoRoom, Corrupt, WriteOut, fronted, tailed, filledOf, grownOf, writeOf, looked, wanted, firstHead, putOf, Look, Found, Lost}
-use Rattle.writes.specs.Allocator.{Allocator}
+use Rattle.writes.specs.Allocator.{Counter}
 use Rattle.writes.specs.Plain.{need}
 use Rattle.writes.proofs.Fills.{front-card, front-others}
 use Rattle.writes.proofs.Widths.{share, room, needs}
@@ -59,41 +59,41 @@ fills {W} look B N j k off s n img ks go c low r = by (ltb (over j - s) n) refl 
         )
 
 module _ {W : Type 0} (look : List ℕ → ℕ → Look) (B N : ℕ) (health : List ℕ) (tries : W → ℕ) (alloc : W → List ℕ → Took W)
-    (L : ℕ → Type 0) (Ok : W → List ℕ → List ℕ → Type 0) (Exact : W → Type 0) (goods : W → ℕ)
-    (al : Allocator B N health tries alloc L Ok Exact goods) (j : Job) (fits : new j < 2 ^ 32) where
+    (L : ℕ → Type 0) (Ok : W → List ℕ → Type 0) (goods : W → ℕ) (End : W → List ℕ → Type 0)
+    (al : Counter B N health tries alloc L Ok goods End) (j : Job) (fits : new j < 2 ^ 32) where
   -- How a write ends from (w, s) on, on any list: -84; written, and the blocks needed were there; or -28, and they were not.
   pub data Counted (m : ℕ) (w : W) (s : ℕ) (o : WriteOut W) : Type 0 where
     corrupt : o .answer ≡ Corrupt → Counted m w s o
-    done : (h n : ℕ) → o .answer ≡ Written h n → (Exact w → need B j s ≤ goods w) → Counted m w s o
-    full : o .answer ≡ NoRoom → (Exact w → tries w < m → goods w < need B j s) → Counted m w s o
+    done : (h n : ℕ) → o .answer ≡ Written h n → need B j s ≤ goods w → Counted m w s o
+    full : o .answer ≡ NoRoom → (tries w < m → (goods w < need B j s) × End (o .rest) (o .image)) → Counted m w s o
 
   -- the growth from (w, h, s)
   abbrev next : W → ℕ → ℕ → List ℕ → GrowOut W
   next w h s img = growOf alloc (suc (tries w)) w health B N h s img
 
   -- a turn that a blocks were needed for
-  turn : (a m : ℕ) (w w₁ : W) (s s₁ : ℕ) (o : WriteOut W) → need B j s ≡ a + need B j s₁ → (Exact w → goods w ≡ a + goods w₁) → (Exact w → Exact w₁)
+  turn : (a m : ℕ) (w w₁ : W) (s s₁ : ℕ) (o : WriteOut W) → need B j s ≡ a + need B j s₁ → goods w ≡ a + goods w₁
       → tries w₁ < tries w → Counted m w₁ s₁ o → Counted (suc m) w s o
-  turn a m w w₁ s s₁ o n g x l (corrupt e) = corrupt e
-  turn a m w w₁ s s₁ o n g x l (done h z e c) = done h z e (λ y. omega (arith, n, g y, c (x y)))
-  turn a m w w₁ s s₁ o n g x l (full e c) = full e (λ y z. omega (arith, n, g y, c (x y) (omega arith)))
+  turn a m w w₁ s s₁ o n g l (corrupt e) = corrupt e
+  turn a m w w₁ s s₁ o n g l (done h z e c) = done h z e (omega arith)
+  turn a m w w₁ s s₁ o n g l (full e c) = full e (λ z. let y = c (omega arith) in (omega arith, y .1))
 
-  counting : (m : ℕ) (w : W) (out img : List ℕ) (h s : ℕ) → Card B N (length img) → Ok w out img → Counted m w s (writeOf look tries alloc m health B N j w h s img)
+  counting : (m : ℕ) (w : W) (img : List ℕ) (h s : ℕ) → Card B N (length img) → Ok w img → Counted m w s (writeOf look tries alloc m health B N j w h s img)
   unfolding writeOf grownOf
-  counting zero w out img h s c ok = full refl (λ x z. absurd (omega arith))
-  counting (suc m) w out img h s c ok = step (ltb s (new j)) refl (counting m)
+  counting zero w img h s c ok = full refl (λ z. absurd (omega arith))
+  counting (suc m) w img h s c ok = step (ltb s (new j)) refl (counting m)
     where
       step : (x : Bool) → ltb s (new j) ≡ x
-          → ((w₁ : W) (out₁ img₁ : List ℕ) (h₁ s₁ : ℕ) → Card B N (length img₁) → Ok w₁ out₁ img₁ → Counted m w₁ s₁ (writeOf look tries alloc m health B N j w₁ h₁ s₁ img₁))
+          → ((w₁ : W) (img₁ : List ℕ) (h₁ s₁ : ℕ) → Card B N (length img₁) → Ok w₁ img₁ → Counted m w₁ s₁ (writeOf look tries alloc m health B N j w₁ h₁ s₁ img₁))
           → Counted (suc m) w s (writeOf look tries alloc (suc m) health B N j w h s img)
-      step false e ih = rw (writeOf, e) (done h s refl (λ x. rw (no-need B j s (ltb-false s (new j) e)) (omega arith)))
-      step true e ih = grown (grew B N health tries alloc L Ok Exact goods al h s (omega (arith, ltb-true s (new j) e)) (suc (tries w)) w out img c ok)
+      step false e ih = rw (writeOf, e) (done h s refl (rw (no-need B j s (ltb-false s (new j) e)) (omega arith)))
+      step true e ih = grown (grew B N health tries alloc L Ok goods End al h s (omega (arith, ltb-true s (new j) e)) (suc (tries w)) w img c ok)
         where
-          grown : Grew B N health tries alloc L Ok Exact goods al (suc (tries w)) w s (next w h s img)
+          grown : Grew B N health tries alloc L Ok goods End al (suc (tries w)) w s (next w h s img)
               → Counted (suc m) w s (writeOf look tries alloc (suc m) health B N j w h s img)
           grown (hurt a) = rw (writeOf, e, grownOf, a) (corrupt refl)
-          grown (none a x) = rw (writeOf, e, grownOf, a) (full refl (λ y z. omega (arith, x y (omega arith), some-need B j s (ltb-true s (new j) e))))
-          grown (gets k out′ g) = health-by (refusesProgram health k) refl
+          grown (none a x) = rw (writeOf, e, grownOf, a) (full refl (λ z. let y = x (omega arith) in (omega (arith, some-need B j s (ltb-true s (new j) e)), y .1)))
+          grown (gets k g) = health-by (refusesProgram health k) refl
             where
               lt : s < new j
               lt = ltb-true s (new j) e
@@ -109,34 +109,24 @@ module _ {W : Type 0} (look : List ℕ → ℕ → Look) (B N : ℕ) (health : L
               filled q (inr a) = rw (writeOf, e, grownOf, g .answer, q) (corrupt a)
               filled q (inl f) =
                   rw (writeOf, e, grownOf, g .answer, q, f .2)
-                  (turn 1 m w _ s (s + share B (new j) s) _ (omega (arith, needs B (c .sized) j s lt fits)) (λ x. omega (arith, g .good x q)) (g .exact) (g .fewer)
-                  (ih _ out′ (f .0) k (s + share B (new j) s) (f .1 .card)
-                  (al .frame _ out′ _ (f .0) (g .ok) (f .1 .card) (λ k′ o′ u l. f .1 .others k′ o′ (g .mine k′ u) l))))
+                  (turn 1 m w _ s (s + share B (new j) s) _ (omega (arith, needs B (c .sized) j s lt fits)) (omega (arith, g .good q)) (g .fewer)
+                  (ih _ (f .0) k (s + share B (new j) s) (f .1 .card)
+                  (al .frame _ _ (f .0) (g .ok) (f .1 .card) (λ k′ o′ u l. f .1 .others k′ o′ (g .mine k′ u) l))))
 
               health-by : (y : Bool) → refusesProgram health k ≡ y → Counted (suc m) w s (writeOf look tries alloc (suc m) health B N j w h s img)
               health-by true q =
                   rw (writeOf, e, grownOf, g .answer, q)
-                  (turn 0 m w _ s s _ (omega arith) (λ x. omega (arith, g .spoilt x q)) (g .exact) (g .fewer) (ih _ out′ _ h s (g .card) (g .ok)))
+                  (turn 0 m w _ s s _ (omega arith) (omega (arith, g .spoilt q)) (g .fewer) (ih _ _ h s (g .card) (g .ok)))
               health-by false q =
                   filled q (fills look B N j k (offsetAt B s) s (share B (new j) s) (next w h s img .image) (next w h s img .rest)
                   (λ img′. writeOf look tries alloc m health B N j (next w h s img .rest) k (s + share B (new j) s) img′)
                   (g .card) (g .low) (room B (c .sized) (new j) s lt fits))
 
   -- THE COUNT. A write of at least one byte, on any list and with any lookup.
-  pub counted : (w : W) (img : List ℕ) → Card B N (length img) → Ok w [] img → Counted (suc (tries w)) w (kept j) (putOf look tries alloc health B N j w img)
+  pub counted : (w : W) (img : List ℕ) → Card B N (length img) → Ok w img → Counted (suc (tries w)) w (kept j) (putOf look tries alloc health B N j w img)
   unfolding putOf
   counted w img c ok = go (looked look img (wanted B j)) refl
     where
       go : (t : Bool) → looked look img (wanted B j) ≡ t → Counted (suc (tries w)) w (kept j) (putOf look tries alloc health B N j w img)
       go false e = rw (putOf, e) (corrupt refl)
-      go true e = rw (putOf, e) (counting (suc (tries w)) w [] img (firstHead look img (kept j)) (kept j) c ok)
-
--- A write whose first allocation meets -84 is -84.
-pub first-bad : {W : Type 0} (look : List ℕ → ℕ → Look) (tries : W → ℕ) (alloc : W → List ℕ → Took W) (health : List ℕ) (B N : ℕ) (j : Job) (w w′ : W) (img : List ℕ)
-    → alloc w img ≡ Bad w′ → kept j < new j → putOf look tries alloc health B N j w img .answer ≡ Corrupt
-unfolding putOf writeOf grownOf growOf
-first-bad look tries alloc health B N j w w′ img e more = go (looked look img (wanted B j)) refl
-  where
-    go : (t : Bool) → looked look img (wanted B j) ≡ t → putOf look tries alloc health B N j w img .answer ≡ Corrupt
-    go false q = rw (putOf, q)
-    go true q = rw (putOf, q, writeOf, lt-ltb (kept j) (new j) more, grownOf, growOf, e)
+      go true e = rw (putOf, e) (counting (suc (tries w)) w img (firstHead look img (kept j)) (kept j) c ok)

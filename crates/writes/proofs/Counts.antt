@@ -2,7 +2,7 @@
 use mathlib.Core.Path.{_≡_, refl, sym, ap, _∙_}
 use mathlib.Core.Logic.{_≢_, _⊎_, inl, inr}
 use mathlib.Core.Bool.{Bool, true, false, and-eq-true-iff}
-use mathlib.Core.List.{List, _∷_}
+use mathlib.Core.List.{List}
 use Prim.Native.Nat.{ℕ, zero, suc, _+_, _*_, _^_, _≤_, _<_}
 use native.Mathlib.Nat.{add-suc, suc-add, zero-add}
 use native.Mathlib.Omega.{arith}
@@ -21,7 +21,7 @@ use Rattle.grow.specs.declared.Growth.the-variants.{Grown, Full, Damaged}
 use Rattle.grow.specs.Supply.{Took, Block, None, Bad}
 use Rattle.grow.specs.Grow.{GrowOut, part, pointersOf, linkOf, spoils, growOf}
 use Rattle.writes.specs.Cells.{cell}
-use Rattle.writes.specs.Allocator.{Taken, Allocator}
+use Rattle.writes.specs.Allocator.{Drawn, Counter}
 use Rattle.writes.proofs.Cells.{stored-card, stored-other}
 use Rattle.writes.proofs.Index.{in-block, roomy}
 use Rattle.writes.proofs.Grows.{wiped-card, wiped-other}
@@ -105,66 +105,64 @@ unfolding spoils
 spoilt-two health N k head s q = and-eq-true-iff _ _ .0 (and-eq-true-iff _ _ .0 q .0) .0
 
 module _ {W : Type 0} (B N : ℕ) (health : List ℕ) (tries : W → ℕ) (alloc : W → List ℕ → Took W)
-    (L : ℕ → Type 0) (Ok : W → List ℕ → List ℕ → Type 0) (Exact : W → Type 0) (goods : W → ℕ)
-    (al : Allocator B N health tries alloc L Ok Exact goods) where
-  -- a block was grown, which is not listed
-  pub record Gets (w : W) (s k : ℕ) (out : List ℕ) (o : GrowOut W) : Type 0 where
+    (L : ℕ → Type 0) (Ok : W → List ℕ → Type 0) (goods : W → ℕ) (End : W → List ℕ → Type 0)
+    (al : Counter B N health tries alloc L Ok goods End) where
+  -- a block was grown, which is none of L
+  pub record Gets (w : W) (s k : ℕ) (o : GrowOut W) : Type 0 where
     pub answer : o .answer ≡ Grown k (offsetAt B s)
     pub low : k < N
     pub mine : (k′ : ℕ) → L k′ → k ≢ k′
     pub card : Card B N (length (o .image))
-    pub ok : Ok (o .rest) out (o .image)
+    pub ok : Ok (o .rest) (o .image)
     pub fewer : tries (o .rest) < tries w
-    pub exact : Exact w → Exact (o .rest)
-    pub good : Exact w → refusesProgram health k ≡ false → goods w ≡ suc (goods (o .rest))
-    pub spoilt : Exact w → refusesProgram health k ≡ true → goods w ≡ goods (o .rest)
+    pub good : refusesProgram health k ≡ false → goods w ≡ suc (goods (o .rest))
+    pub spoilt : refusesProgram health k ≡ true → goods w ≡ goods (o .rest)
 
   -- how a growth ends, on any list
   pub data Grew (m : ℕ) (w : W) (s : ℕ) (o : GrowOut W) : Type 0 where
     hurt : o .answer ≡ Damaged → Grew m w s o
-    none : o .answer ≡ Full → (Exact w → tries w < m → goods w ≡ 0) → Grew m w s o
-    gets : (k : ℕ) (out : List ℕ) → Gets w s k out o → Grew m w s o
+    none : o .answer ≡ Full → (tries w < m → (goods w ≡ 0) × End (o .rest) (o .image)) → Grew m w s o
+    gets : (k : ℕ) → Gets w s k o → Grew m w s o
 
   -- a block that was passed
-  later : (m k s : ℕ) (w w′ : W) (out img : List ℕ) (o : GrowOut W) → Taken N health tries L Ok Exact goods w w′ out img k → (Exact w → goods w ≡ goods w′)
+  later : (m k s : ℕ) (w w′ : W) (img : List ℕ) (o : GrowOut W) → Drawn N health tries L Ok goods w w′ img k → goods w ≡ goods w′
       → Grew m w′ s o → Grew (suc m) w s o
-  later m k s w w′ out img o t ge (hurt a) = hurt a
-  later m k s w w′ out img o t ge (none a x) = none a (λ e l. ge e ∙ x (t .exact e) (omega (arith, t .fewer)))
-  later m k s w w′ out img o t ge (gets k′ out′ g) =
-      gets k′ out′ (record {
+  later m k s w w′ img o t ge (hurt a) = hurt a
+  later m k s w w′ img o t ge (none a x) = none a (λ l. let y = x (omega (arith, t .fewer)) in (ge ∙ y .0, y .1))
+  later m k s w w′ img o t ge (gets k′ g) =
+      gets k′ (record {
         answer = g .answer;
         low = g .low;
         mine = g .mine;
         card = g .card;
         ok = g .ok;
         fewer = omega (arith, g .fewer, t .fewer);
-        exact = λ e. g .exact (t .exact e);
-        good = λ e q. ge e ∙ g .good (t .exact e) q;
-        spoilt = λ e q. ge e ∙ g .spoilt (t .exact e) q;
+        good = λ q. ge ∙ g .good q;
+        spoilt = λ q. ge ∙ g .spoilt q;
       })
 
   module _ (head s : ℕ) (short : s < 2 ^ 32) where
-    pub grew : (m : ℕ) (w : W) (out img : List ℕ) → Card B N (length img) → Ok w out img → Grew m w s (growOf alloc m w health B N head s img)
+    pub grew : (m : ℕ) (w : W) (img : List ℕ) → Card B N (length img) → Ok w img → Grew m w s (growOf alloc m w health B N head s img)
     unfolding growOf
-    grew zero w out img c ok = none refl (λ x l. absurd (omega arith))
-    grew (suc m) w out img c ok = by (alloc w img) refl (grew m)
+    grew zero w img c ok = none refl (λ l. absurd (omega arith))
+    grew (suc m) w img c ok = by (alloc w img) refl (grew m)
       where
         by : (a : Took W) → alloc w img ≡ a
-            → ((w : W) (out img : List ℕ) → Card B N (length img) → Ok w out img → Grew m w s (growOf alloc m w health B N head s img))
+            → ((w : W) (img : List ℕ) → Card B N (length img) → Ok w img → Grew m w s (growOf alloc m w health B N head s img))
             → Grew (suc m) w s (growOf alloc (suc m) w health B N head s img)
-        by (None w′) e ih = rw (growOf, e) (none refl (λ x l. al .none w w′ out img ok e .1 x))
-        by (Bad w′) e ih = absurd (al .never w w′ out img ok e)
+        by (None w′) e ih = rw (growOf, e) (none refl (λ l. al .none w w′ img ok e))
+        by (Bad w′) e ih = rw (growOf, e) (hurt refl)
         by (Block k w′) e ih = step (refusesErase health k) refl (spoils health N k head s) refl
           where
-            tk : Taken N health tries L Ok Exact goods w w′ out img k
-            tk = al .taken w w′ out img k ok e
+            tk : Drawn N health tries L Ok goods w w′ img k
+            tk = al .taken w w′ img k ok e
 
             wo : Only B N k img (wiped B k img)
             wo = record { card = wiped-card B k img N c; others = wiped-other B k img }
 
             -- an image on which only block k changed
-            moved : (img′ : List ℕ) → Only B N k img img′ → Ok w′ (k ∷ out) img′
-            moved img′ a = al .frame w′ (k ∷ out) img img′ (tk .ok) (a .card) (λ k′ o′ u l. a .others k′ o′ (tk .new k′ (inl u)) l)
+            moved : (img′ : List ℕ) → Only B N k img img′ → Ok w′ img′
+            moved img′ a = al .frame w′ img img′ (tk .ok) (a .card) (λ k′ o′ u l. a .others k′ o′ (tk .new k′ u) l)
 
             last : refusesErase health k ≡ false → (o : GrowOut W) → Tried B N w′ (wiped B k img) k (offsetAt B s) o → Grew (suc m) w s o
             last q o t = end (t .answer)
@@ -172,22 +170,21 @@ module _ {W : Type 0} (B N : ℕ) (health : List ℕ) (tries : W → ℕ) (alloc
                 end : (o .answer ≡ Grown k (offsetAt B s)) ⊎ (o .answer ≡ Damaged) → Grew (suc m) w s o
                 end (inr a) = hurt a
                 end (inl a) =
-                    gets k (k ∷ out) (record {
+                    gets k (record {
                       answer = a;
                       low = tk .low;
-                      mine = λ k′ u. tk .new k′ (inl u);
+                      mine = tk .new;
                       card = t .only .card;
                       ok = rw (t .rest) (moved (o .image) (both B N k wo (t .only)));
                       fewer = rw (t .rest) (tk .fewer);
-                      exact = λ x. rw (t .rest) (tk .exact x);
-                      good = λ x y. rw (t .rest) (rw (q, y) at (tk .count x));
-                      spoilt = λ x y. rw (t .rest) (rw (q, y) at (tk .count x));
+                      good = λ y. rw (t .rest) (rw (q, y) at (tk .count));
+                      spoilt = λ y. rw (t .rest) (rw (q, y) at (tk .count));
                     })
 
             step : (x : Bool) → refusesErase health k ≡ x → (y : Bool) → spoils health N k head s ≡ y
                 → Grew (suc m) w s (growOf alloc (suc m) w health B N head s img)
-            step true q y r = rw (growOf, e, q) (later m k s w w′ out img _ tk (λ x. rw q at (tk .count x)) (ih w′ (k ∷ out) img c (tk .ok)))
+            step true q y r = rw (growOf, e, q) (later m k s w w′ img _ tk (rw q at (tk .count)) (ih w′ img c (tk .ok)))
             step false q true r =
                 rw (growOf, e, q, r)
-                (later m k s w w′ out img _ tk (λ x. rw (q, spoilt-two health N k head s r) at (tk .count x)) (ih w′ (k ∷ out) (wiped B k img) (wo .card) (moved (wiped B k img) wo)))
+                (later m k s w w′ img _ tk (rw (q, spoilt-two health N k head s r) at (tk .count)) (ih w′ (wiped B k img) (wo .card) (moved (wiped B k img) wo)))
             step false q false r = rw (growOf, e, q, r) (last q _ (links B N w′ k head (wiped B k img) (wo .card) s short))

@@ -32,8 +32,8 @@ module _ (B k : ℕ) (img : List ℕ) where
   wiped-other = stored-other B k 0 (replicate B 255) img (omega (arith, length-replicate {A = ℕ} B 255))
 
 module _ {W : Type 0} (B N : ℕ) (health : List ℕ) (tries : W → ℕ) (alloc : W → List ℕ → Took W)
-    (L : ℕ → Type 0) (Ok : W → List ℕ → List ℕ → Type 0) (Exact : W → Type 0) (goods : W → ℕ)
-    (al : Allocator B N health tries alloc L Ok Exact goods) where
+    (L : ℕ → Type 0) (Ok : W → List ℕ → List ℕ → Type 0)
+    (al : Allocator B N tries alloc L Ok) where
   -- a block was grown: k, which was not known; mid is the image after the erases
   pub record Got (out img : List ℕ) (f : ℕ → ℕ) (s : ℕ) (o : GrowOut W) (out′ : List ℕ) (k : ℕ) : Type 0 where
     pub answer : o .answer ≡ Grown k (offsetAt B s)
@@ -55,7 +55,7 @@ module _ {W : Type 0} (B N : ℕ) (health : List ℕ) (tries : W → ℕ) (alloc
 
   module _ (f : ℕ → ℕ) (head s : ℕ) where
     -- a block that was passed
-    later : (k : ℕ) (w w′ : W) (out img img₁ : List ℕ) (o : GrowOut W) → Taken N health tries L Ok Exact goods w w′ out img k
+    later : (k : ℕ) (w w′ : W) (out img img₁ : List ℕ) (o : GrowOut W) → Taken N tries L Ok w w′ out img k
         → ((k′ o′ : ℕ) → k ≢ k′ → o′ < B → cell B img₁ k′ o′ ≡ cell B img k′ o′) → Growing (k ∷ out) img₁ f s o → Growing out img f s o
     later k w w′ out img img₁ o t e g = record {
       out′ = g .out′;
@@ -88,7 +88,7 @@ module _ {W : Type 0} (B N : ℕ) (health : List ℕ) (tries : W → ℕ) (alloc
             )
 
     -- the block that was taken
-    taken-one : (k : ℕ) (w w′ : W) (out img img₁ : List ℕ) (o : GrowOut W) → Taken N health tries L Ok Exact goods w w′ out img k
+    taken-one : (k : ℕ) (w w′ : W) (out img img₁ : List ℕ) (o : GrowOut W) → Taken N tries L Ok w w′ out img k
         → ((k′ o′ : ℕ) → k ≢ k′ → o′ < B → cell B img₁ k′ o′ ≡ cell B img k′ o′) → Linked B N w′ img₁ f k s o → Growing out img f s o
     taken-one k w w′ out img img₁ o t e v = record {
       out′ = k ∷ out;
@@ -132,19 +132,18 @@ module _ {W : Type 0} (B N : ℕ) (health : List ℕ) (tries : W → ℕ) (alloc
             → ((i : ℕ) → start B i < s → Known L out (f i)) → Growing out img f s (growOf alloc m w health B N head s img))
             → Growing out img f s (growOf alloc (suc m) w health B N head s img)
         by (None w′) e ih =
-            let n = al .none w w′ out img ok e in
             rw (growOf, e) (record {
               out′ = out;
               card = c;
               stays = λ k o u l. refl;
-              ok = n .0;
+              ok = al .none w w′ out img ok e;
               less = λ k u. u;
               end = inl refl;
             })
         by (Bad w′) e ih = absurd (al .never w w′ out img ok e)
         by (Block k w′) e ih = step (refusesErase health k) refl (spoils health N k head s) refl
           where
-            tk : Taken N health tries L Ok Exact goods w w′ out img k
+            tk : Taken N tries L Ok w w′ out img k
             tk = al .taken w w′ out img k ok e
 
             ow : (k′ o′ : ℕ) → k ≢ k′ → o′ < B → cell B (wiped B k img) k′ o′ ≡ cell B img k′ o′

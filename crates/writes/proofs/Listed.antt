@@ -1,5 +1,5 @@
 -- A list of blocks as an allocator: the write's theorem with nothing abstract left. Assumes nothing.
-use mathlib.Core.Path.{_≡_, refl, ap, subst}
+use mathlib.Core.Path.{_≡_, ap, subst}
 use mathlib.Core.Logic.{_≢_, _⊎_, inl, inr}
 use mathlib.Core.List.{List, [], _∷_}
 use Prim.Native.Nat.{ℕ, _^_, _<_}
@@ -12,7 +12,7 @@ use Rattle.grow.specs.Supply.{Block, None, Bad}
 use Rattle.store.specs.Write.{Job, new, putOf, Look, Found}
 use Rattle.writes.specs.Lists.{blockAt}
 use Rattle.writes.specs.Allocator.{In, Known, Stays, Taken, Allocator}
-use Rattle.writes.specs.Supply.{Out, Supply, handOut, goods}
+use Rattle.writes.specs.Supply.{Out, Supply, handOut}
 use Rattle.writes.proofs.Holds.{used}
 use Rattle.writes.proofs.Stands.{others-stand}
 use Rattle.writes.proofs.Writes.{Outcome, write-plain}
@@ -33,12 +33,11 @@ pub record InOrder (N : ℕ) (ks₀ ks out img : List ℕ) : Type 0 where
 
 module _ (B N : ℕ) (health ks₀ : List ℕ) where
   -- a list of blocks keeps the laws of an allocator
-  pub listed : Allocator B N health length handOut (Rest ks₀) (InOrder N ks₀) (λ ks. Unit {0}) (goods health)
-  unfolding goods
+  pub listed : Allocator B N length handOut (Rest ks₀) (InOrder N ks₀)
   listed = record { taken = taken; none = none; never = never; frame = λ w out img img′ o c s. record { supply = o .supply; listed = o .listed; before = o .before } }
     where
       taken : (w w′ out img : List ℕ) (k : ℕ) → InOrder N ks₀ w out img → handOut w img ≡ Block k w′
-          → Taken N health length (Rest ks₀) (InOrder N ks₀) (λ ks. Unit {0}) (goods health) w w′ out img k
+          → Taken N length (Rest ks₀) (InOrder N ks₀) w w′ out img k
       taken [] w′ out img k o e = let z : _≡_ {A = ℕ} 0 1 = cc in absurd (omega arith)
       taken (x ∷ xs) w′ out img k o e =
           let ek : x ≡ k = cc in
@@ -48,8 +47,6 @@ module _ (B N : ℕ) (health ks₀ : List ℕ) where
             new = new-one;
             ok = record { supply = o .supply .2; listed = λ k′ u. o .listed k′ u .1; before = before };
             fewer = omega arith;
-            exact = λ u. u;
-            count = λ u. refl;
           })
         where
           new-one : (k′ : ℕ) → Known (Rest ks₀) out k′ → x ≢ k′
@@ -60,8 +57,8 @@ module _ (B N : ℕ) (health ks₀ : List ℕ) where
           before k′ (inl a) = subst (λ (z : ℕ). Out z xs) a (o .supply .1)
           before k′ (inr a) = o .before k′ a .1
 
-      none : (w w′ out img : List ℕ) → InOrder N ks₀ w out img → handOut w img ≡ None w′ → InOrder N ks₀ w′ out img × (Unit {0} → goods health w ≡ 0)
-      none [] w′ out img o e = let q : [] ≡ w′ = cc in (rw (← q) o, λ u. refl)
+      none : (w w′ out img : List ℕ) → InOrder N ks₀ w out img → handOut w img ≡ None w′ → InOrder N ks₀ w′ out img
+      none [] w′ out img o e = let q : [] ≡ w′ = cc in rw (← q) o
       none (x ∷ xs) w′ out img o e = let z : _≡_ {A = ℕ} 0 1 = cc in absurd (omega arith)
 
       never : (w w′ out img : List ℕ) → InOrder N ks₀ w out img → handOut w img ≡ Bad w′ → ⊥
@@ -74,7 +71,7 @@ module _ (B N : ℕ) (health ks₀ : List ℕ) where
       → Outcome B N j (Rest ks₀) (InOrder N ks₀) img
       (putOf (lookAt B (j .head) (j .old)) length handOut health B N j ks₀ img)
   write-listed j img c su so cl sm ft =
-      write-plain (lookAt B (j .head) (j .old)) B N health length handOut (Rest ks₀) (InOrder N ks₀) (λ ks. Unit {0}) (goods health) listed j ks₀ img
+      write-plain (lookAt B (j .head) (j .old)) B N health length handOut (Rest ks₀) (InOrder N ks₀) listed j ks₀ img
       (record { card = c; ok = record { supply = su; listed = λ k u. u; before = λ k u. absurd u }; list = so; clear = cl; looks = looks; some = sm; fits = ft })
     where
       short : j .old < 2 ^ 32

@@ -24,8 +24,8 @@ use Rattle.writes.proofs.States.{Begin, State, stood, passed}
 use Rattle.writes.proofs.Turns.{turned, tail-block, room}
 
 module _ {W : Type 0} (look : List ℕ → ℕ → Look) (B N : ℕ) (health : List ℕ) (tries : W → ℕ) (alloc : W → List ℕ → Took W)
-    (L : ℕ → Type 0) (Ok : W → List ℕ → List ℕ → Type 0) (Exact : W → Type 0) (goods : W → ℕ)
-    (al : Allocator B N health tries alloc L Ok Exact goods) (j : Job) where
+    (L : ℕ → Type 0) (Ok : W → List ℕ → List ℕ → Type 0)
+    (al : Allocator B N tries alloc L Ok) (j : Job) where
   -- the growth from (w, h, s)
   abbrev next : W → ℕ → ℕ → List ℕ → GrowOut W
   next w h s img = growOf alloc (suc (tries w)) w health B N h s img
@@ -43,11 +43,11 @@ module _ {W : Type 0} (look : List ℕ → ℕ → Look) (B N : ℕ) (health : L
     writing zero w out img f h s st = short out refl (st .card) (st .ok) (st .stays)
     writing (suc m) w out img f h s st = step (ltb s (new j)) refl (g .end) (writing m)
       where
-        g : Growing B N health tries alloc L Ok Exact goods al out img f s (next w h s img)
-        g = growing B N health tries alloc L Ok Exact goods al f h s (suc (tries w)) w out img (st .card) (st .ok) (st .holds) (st .top) (st .clear)
+        g : Growing B N health tries alloc L Ok al out img f s (next w h s img)
+        g = growing B N health tries alloc L Ok al f h s (suc (tries w)) w out img (st .card) (st .ok) (st .holds) (st .top) (st .clear)
 
         step : (x : Bool) → ltb s (new j) ≡ x
-            → (next w h s img .answer ≡ Full) ⊎ ((k : ℕ) × Got B N health tries alloc L Ok Exact goods al out img f s (next w h s img) (g .out′) k)
+            → (next w h s img .answer ≡ Full) ⊎ ((k : ℕ) × Got B N health tries alloc L Ok al out img f s (next w h s img) (g .out′) k)
             → ((w₁ : W) (out₁ img₁ : List ℕ) (f₁ : ℕ → ℕ) (h₁ s₁ : ℕ) → State B N j L Ok img₀ f₀ w₁ out₁ img₁ f₁ h₁ s₁
             → Ended img₀ f₀ (writeOf look tries alloc m health B N j w₁ h₁ s₁ img₁))
             → Ended img₀ f₀ (writeOf look tries alloc (suc m) health B N j w h s img)
@@ -57,10 +57,10 @@ module _ {W : Type 0} (look : List ℕ → ℕ → Look) (B N : ℕ) (health : L
             (done out f h (ap (Written h) q) (subst (λ (z : ℕ). State B N j L Ok img₀ f₀ w out img f h z) q st))
         step true e (inl a) ih =
             rw (writeOf, e, grownOf, a)
-            (short (g .out′) refl (g .card) (g .ok) (stood B N health tries alloc L Ok Exact goods al j img₀ f₀ w out img f h s st _ g))
+            (short (g .out′) refl (g .card) (g .ok) (stood B N health tries alloc L Ok al j img₀ f₀ w out img f h s st _ g))
         step true e (inr t) ih = health-by (refusesProgram health (t .0)) refl
           where
-            v : Got B N health tries alloc L Ok Exact goods al out img f s (next w h s img) (g .out′) (t .0)
+            v : Got B N health tries alloc L Ok al out img f s (next w h s img) (g .out′) (t .0)
             v = t .1
 
             lt : s < new j
@@ -69,12 +69,12 @@ module _ {W : Type 0} (look : List ℕ → ℕ → Look) (B N : ℕ) (health : L
             health-by : (y : Bool) → refusesProgram health (t .0) ≡ y → Ended img₀ f₀ (writeOf look tries alloc (suc m) health B N j w h s img)
             health-by true q =
                 rw (writeOf, e, grownOf, v .answer, q)
-                (ih _ (g .out′) _ f h s (passed B N health tries alloc L Ok Exact goods al j img₀ f₀ w out img f h s st _ g))
+                (ih _ (g .out′) _ f h s (passed B N health tries alloc L Ok al j img₀ f₀ w out img f h s st _ g))
             health-by false q =
                 let fl = filling look B N j (t .0) (offsetAt B s) s (share B (new j) s) (f₀ (indexAt B s)) (next w h s img .image) (next w h s img .rest)
                 (λ img′. writeOf look tries alloc m health B N j (next w h s img .rest) (t .0) (s + share B (new j) s) img′)
-                (g .card) (v .low) (room look B N health tries alloc L Ok Exact goods al j img₀ f₀ b w out img f h s st _ g (t .0) v lt)
-                (tail-block look B N health tries alloc L Ok Exact goods al j img₀ f₀ b w out img f h s st _ g (t .0) v lt) in
+                (g .card) (v .low) (room look B N health tries alloc L Ok al j img₀ f₀ b w out img f h s st _ g (t .0) v lt)
+                (tail-block look B N health tries alloc L Ok al j img₀ f₀ b w out img f h s st _ g (t .0) v lt) in
                 rw (writeOf, e, grownOf, v .answer, q, fl .2)
                 (ih _ (g .out′) (fl .0) (put f (indexAt B s) (t .0)) (t .0) (s + share B (new j) s)
-                (turned look B N health tries alloc L Ok Exact goods al j img₀ f₀ b w out img f h s st _ g (t .0) v lt (fl .0) (fl .1)))
+                (turned look B N health tries alloc L Ok al j img₀ f₀ b w out img f h s st _ g (t .0) v lt (fl .0) (fl .1)))

@@ -45,11 +45,11 @@ pub record State {W : Type 0} (B N : ℕ) (j : Job) (L : ℕ → Type 0) (Ok : W
   pub new-ones : (i : ℕ) → kept j < s → indexAt B (kept j) ≤ i → start B i < s → (k : ℕ) → L k → f i ≢ k
 
 module _ {W : Type 0} (B N : ℕ) (health : List ℕ) (tries : W → ℕ) (alloc : W → List ℕ → Took W)
-    (L : ℕ → Type 0) (Ok : W → List ℕ → List ℕ → Type 0) (Exact : W → Type 0) (goods : W → ℕ)
-    (al : Allocator B N health tries alloc L Ok Exact goods)
+    (L : ℕ → Type 0) (Ok : W → List ℕ → List ℕ → Type 0)
+    (al : Allocator B N tries alloc L Ok)
     (j : Job) (img₀ : List ℕ) (f₀ : ℕ → ℕ) (w₀ : W) (out img : List ℕ) (f : ℕ → ℕ) (h s : ℕ)
     (st : State B N j L Ok img₀ f₀ w₀ out img f h s) (o : GrowOut W)
-    (g : Growing B N health tries alloc L Ok Exact goods al out img f s o) where
+    (g : Growing B N health tries alloc L Ok al out img f s o) where
   -- the listed blocks stand over this growth
   pub stood : Stays B L img₀ (o .image)
   stood k o′ u l = g .stays k o′ (inl u) l ∙ st .stays k o′ u l

@@ -30,12 +30,12 @@ use Rattle.writes.proofs.Widths.{share}
 use Rattle.writes.proofs.States.{want, Begin, State, stood, known}
 
 module _ {W : Type 0} (look : List ℕ → ℕ → Look) (B N : ℕ) (health : List ℕ) (tries : W → ℕ) (alloc : W → List ℕ → Took W)
-    (L : ℕ → Type 0) (Ok : W → List ℕ → List ℕ → Type 0) (Exact : W → Type 0) (goods : W → ℕ)
-    (al : Allocator B N health tries alloc L Ok Exact goods)
+    (L : ℕ → Type 0) (Ok : W → List ℕ → List ℕ → Type 0)
+    (al : Allocator B N tries alloc L Ok)
     (j : Job) (img₀ : List ℕ) (f₀ : ℕ → ℕ) (b : Begin look B N j L img₀ f₀) (w₀ : W) (out img : List ℕ) (f : ℕ → ℕ) (h s : ℕ)
     (st : State B N j L Ok img₀ f₀ w₀ out img f h s) (o : GrowOut W)
-    (g : Growing B N health tries alloc L Ok Exact goods al out img f s o)
-    (k : ℕ) (w : Got B N health tries alloc L Ok Exact goods al out img f s o (g .out′) k) (more : s < new j) where
+    (g : Growing B N health tries alloc L Ok al out img f s o)
+    (k : ℕ) (w : Got B N health tries alloc L Ok al out img f s o (g .out′) k) (more : s < new j) where
   abbrev i : ℕ
   i = indexAt B s
 
@@ -69,7 +69,7 @@ module _ {W : Type 0} (look : List ℕ → ℕ → Look) (B N : ℕ) (health : L
 
   -- the listed blocks stand
   frame : Stays B L img₀ (o .image)
-  frame = stood B N health tries alloc L Ok Exact goods al j img₀ f₀ w₀ out img f h s st o g
+  frame = stood B N health tries alloc L Ok al j img₀ f₀ w₀ out img f h s st o g
 
   -- the tail's block, on the image as it stands, is that of the old list
   abbrev front : List ℕ
@@ -168,7 +168,7 @@ module _ {W : Type 0} (look : List ℕ → ℕ → Look) (B N : ℕ) (health : L
         clear-at i′ u true e = subst (λ (z : ℕ). Known L (g .out′) z) (sym (ap (put f i k) (eqb-true i′ i e) ∙ put-same f i k)) (inr (w .fresh))
         clear-at i′ u false e =
             subst (λ (z : ℕ). Known L (g .out′) z) (sym (put-other f i k i′ (eqb-false i′ i e)))
-            (known B N health tries alloc L Ok Exact goods al j img₀ f₀ w₀ out img f h s st o g (st .clear i′ (before i′ u (eqb-false i′ i e) .1)))
+            (known B N health tries alloc L Ok al j img₀ f₀ w₀ out img f h s st o g (st .clear i′ (before i′ u (eqb-false i′ i e) .1)))
 
         read-at : (p : ℕ) → p < s + wd → (p < s) ⊎ (s ≤ p) → byteAt B img′ (put f i k) p ≡ want B j img₀ f₀ p
         read-at p l (inl a) =

@@ -73,8 +73,8 @@ pub data Outcome {W : Type 0} (B N : ℕ) (j : Job) (L : ℕ → Type 0) (Ok : W
   refused : (out : List ℕ) → Refused B N L Ok img o out → Outcome B N j L Ok img o
 
 module _ {W : Type 0} (look : List ℕ → ℕ → Look) (B N : ℕ) (health : List ℕ) (tries : W → ℕ) (alloc : W → List ℕ → Took W)
-    (L : ℕ → Type 0) (Ok : W → List ℕ → List ℕ → Type 0) (Exact : W → Type 0) (goods : W → ℕ)
-    (al : Allocator B N health tries alloc L Ok Exact goods) (j : Job) (w : W) (img : List ℕ) (g : Given look B N j L Ok w img) where
+    (L : ℕ → Type 0) (Ok : W → List ℕ → List ℕ → Type 0)
+    (al : Allocator B N tries alloc L Ok) (j : Job) (w : W) (img : List ℕ) (g : Given look B N j L Ok w img) where
   abbrev f₀ : ℕ → ℕ
   f₀ = blockAt img B (j .head) (j .old)
 
@@ -152,11 +152,11 @@ module _ {W : Type 0} (look : List ℕ → ℕ → Look) (B N : ℕ) (health : L
   -- A write on a sound list is written, or refused for want of blocks, and never damaged.
   pub write-plain : Outcome B N j L Ok img (putOf look tries alloc health B N j w img)
   unfolding putOf
-  write-plain = rw (putOf, all-looked) (go (writing look B N health tries alloc L Ok Exact goods al j img f₀ begin (suc (tries w)) w [] img f₀ _ (kept j) first))
+  write-plain = rw (putOf, all-looked) (go (writing look B N health tries alloc L Ok al j img f₀ begin (suc (tries w)) w [] img f₀ _ (kept j) first))
     where
       all-looked : looked look img (wanted B j) ≡ true
       all-looked = wanted-looked look img B j (λ p l. (_, g .looks img (g .card) (λ k o u h. refl) p l)) sized (g .fits) (g .some)
 
-      go : Ended look B N health tries alloc L Ok Exact goods al j img f₀ o → Outcome B N j L Ok img o
+      go : Ended look B N health tries alloc L Ok al j img f₀ o → Outcome B N j L Ok img o
       go (done out f h a st) = written h out (accepted o out f h a st)
       go (short out a c ok s) = refused out (record { answer = a; card = c; ok = ok; stays = s })

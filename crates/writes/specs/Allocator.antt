@@ -1,4 +1,4 @@
--- What a write asks of an allocator, whatever its state W is: five laws.
+-- What a write asks of an allocator, whatever its state W is: four laws; and what its count of blocks asks: three.
 use mathlib.Core.Path.{_≡_}
 use mathlib.Core.Bool.{Bool, true, false}
 use mathlib.Core.Logic.{_≢_, _⊎_}
@@ -29,24 +29,37 @@ bump true t n = n
 bump false true n = n
 bump false false n = suc n
 
--- What an allocated block k is: below N, neither listed nor handed out in this call; the tries left fall; and where counts are exact, the good blocks
--- yet to come are one fewer if k is good.
-pub record Taken {W : Type 0} (N : ℕ) (health : List ℕ) (tries : W → ℕ) (L : ℕ → Type 0) (Ok : W → List ℕ → List ℕ → Type 0)
-    (Exact : W → Type 0) (goods : W → ℕ) (w w′ : W) (out img : List ℕ) (k : ℕ) : Type 0 where
+-- What an allocated block k is: below N, neither listed nor handed out in this call; and the tries left fall.
+pub record Taken {W : Type 0} (N : ℕ) (tries : W → ℕ) (L : ℕ → Type 0) (Ok : W → List ℕ → List ℕ → Type 0)
+    (w w′ : W) (out img : List ℕ) (k : ℕ) : Type 0 where
   pub low : k < N
   pub new : (k′ : ℕ) → Known L out k′ → k ≢ k′
   pub ok : Ok w′ (k ∷ out) img
   pub fewer : tries w′ < tries w
-  pub exact : Exact w → Exact w′
-  pub count : Exact w → goods w ≡ bump (refusesErase health k) (refusesProgram health k) (goods w′)
 
--- Ok w out img: w is in order, the blocks out were handed out in this call, and img is the image as it stands. Exact and goods are asked only for -28:
--- where Exact, goods w is the number of good blocks that are yet to come.
-pub record Allocator {W : Type 0} (B N : ℕ) (health : List ℕ) (tries : W → ℕ) (alloc : W → List ℕ → Took W)
-    (L : ℕ → Type 0) (Ok : W → List ℕ → List ℕ → Type 0) (Exact : W → Type 0) (goods : W → ℕ) : Type 0 where
+-- Ok w out img: w is in order, the blocks out were handed out in this call, and img is the image as it stands.
+pub record Allocator {W : Type 0} (B N : ℕ) (tries : W → ℕ) (alloc : W → List ℕ → Took W)
+    (L : ℕ → Type 0) (Ok : W → List ℕ → List ℕ → Type 0) : Type 0 where
   pub taken : (w w′ : W) (out img : List ℕ) (k : ℕ) → Ok w out img → alloc w img ≡ Block k w′
-      → Taken N health tries L Ok Exact goods w w′ out img k
-  pub none : (w w′ : W) (out img : List ℕ) → Ok w out img → alloc w img ≡ None w′ → Ok w′ out img × (Exact w → goods w ≡ 0)
+      → Taken N tries L Ok w w′ out img k
+  pub none : (w w′ : W) (out img : List ℕ) → Ok w out img → alloc w img ≡ None w′ → Ok w′ out img
   pub never : (w w′ : W) (out img : List ℕ) → Ok w out img → alloc w img ≡ Bad w′ → ⊥
   -- the listed blocks are all that it looks at
   pub frame : (w : W) (out img img′ : List ℕ) → Ok w out img → Card B N (length img′) → Stays B L img img′ → Ok w out img′
+
+-- For the count, on any list, sound or not: L are blocks that are never handed out, and goods w is the number of good blocks that are yet to come.
+pub record Drawn {W : Type 0} (N : ℕ) (health : List ℕ) (tries : W → ℕ) (L : ℕ → Type 0) (Ok : W → List ℕ → Type 0) (goods : W → ℕ)
+    (w w′ : W) (img : List ℕ) (k : ℕ) : Type 0 where
+  pub low : k < N
+  pub new : (k′ : ℕ) → L k′ → k ≢ k′
+  pub ok : Ok w′ img
+  pub fewer : tries w′ < tries w
+  pub count : goods w ≡ bump (refusesErase health k) (refusesProgram health k) (goods w′)
+
+-- An allocation may also fail; End holds where it is short of blocks.
+pub record Counter {W : Type 0} (B N : ℕ) (health : List ℕ) (tries : W → ℕ) (alloc : W → List ℕ → Took W)
+    (L : ℕ → Type 0) (Ok : W → List ℕ → Type 0) (goods : W → ℕ) (End : W → List ℕ → Type 0) : Type 0 where
+  pub taken : (w w′ : W) (img : List ℕ) (k : ℕ) → Ok w img → alloc w img ≡ Block k w′ → Drawn N health tries L Ok goods w w′ img k
+  pub none : (w w′ : W) (img : List ℕ) → Ok w img → alloc w img ≡ None w′ → (goods w ≡ 0) × End w′ img
+  -- the blocks L are all that it looks at
+  pub frame : (w : W) (img img′ : List ℕ) → Ok w img → Card B N (length img′) → Stays B L img img′ → Ok w img′

@@ -2,9 +2,7 @@
 use mathlib.Core.Logic.{_≢_}
 use mathlib.Core.List.{List, [], _∷_}
 use Prim.Native.Nat.{ℕ, _<_}
-use Rattle.device.specs.Device.{refusesErase, refusesProgram}
 use Rattle.grow.specs.Supply.{Took, Block, None}
-use Rattle.writes.specs.Allocator.{bump}
 
 -- block k is not among them
 abbrev pub Out : ℕ → List ℕ → Type 0
@@ -19,8 +17,3 @@ Supply N (k ∷ ks) = (k < N) × Out k ks × Supply N ks
 abbrev pub handOut : List ℕ → List ℕ → Took (List ℕ)
 handOut [] img = None []
 handOut (k ∷ ks) img = Block k ks
-
--- how many of them take an erase and a program
-unfoldable pub goods : List ℕ → List ℕ → ℕ
-goods health [] = 0
-goods health (k ∷ ks) = bump (refusesErase health k) (refusesProgram health k) (goods health ks)
