@@ -14,13 +14,14 @@ use Rattle.files.specs.Table.{held}
 use Rattle.window.specs.declared.Lookahead.{Lookahead}
 use Rattle.window.specs.declared.Answer.the-variants.{Block}
 use Rattle.window.specs.Allocate.{allocOf}
-use Rattle.window.specs.Scan.{has, Below}
+use Rattle.window.specs.Scan.{Below}
 use Rattle.windows.specs.Call.{Clean, Tells, Lists}
 use Rattle.windows.proofs.Has.{below-none, below-more}
 use Rattle.windows.proofs.Single.{handed-out}
 use Rattle.windows.proofs.Listed.{AllBelow, AllOk, tells, lists}
 use Rattle.alloc.specs.Visits.{seenOf, visitsOf, seenIn, listedIn}
 use Rattle.alloc.specs.Allocate.{Ready}
+use Rattle.span.specs.Members.{has}
 
 abbrev Low : ℕ → Visited → Type 0
 Low N v = Below N (v .handed)

@@ -7,9 +7,10 @@ use Rattle.card.specs.Card.{Card}
 use Rattle.ctz.specs.Visits.{Visited, visitOf}
 use Rattle.files.specs.declared.Entry.{Entry}
 use Rattle.files.specs.declared.Table.{Table}
-use Rattle.files.specs.Table.{sizeMax, held}
+use Rattle.files.specs.Table.{held}
 use Rattle.window.specs.Marks.{markAll}
 use Rattle.window.specs.Scan.{Seen, seenAll, listedOf}
+use Rattle.layout.specs.Numbers.{sizeMax}
 
 -- a whole visit, as a scan is told it
 abbrev pub told : Visited → Seen

@@ -3,8 +3,9 @@ use mathlib.Core.Bool.{Bool, true, false, _||_}
 use mathlib.Core.List.{List, [], _∷_}
 use Prim.Native.Nat.{ℕ, zero, suc, _-_, _^_}
 use lib.Dec.{ltb, eqb}
-use lib.IntN.{ℤ, pos, negsuc}
+use lib.IntN.{ℤ}
 use lib.ListN.{length}
+use Rattle.layout.specs.Numbers.{accepted, invalid, nullBlock, sizeMax}
 use Rattle.hops.specs.Walk.{ctz}
 use Rattle.layout.specs.Layout.{indexAt}
 use Rattle.card.specs.Blocks.{pointer}
@@ -54,10 +55,10 @@ unfoldable pub checkOf : ℕ → ℕ → List ℕ → ℕ → ℕ → Checked
 checkOf B N image head size =
     elim (goodCard B N (length image)) [
       | false ↦ Refused
-      | true ↦ elim (ltb 2147483647 size) [
+      | true ↦ elim (ltb sizeMax size) [
         | true ↦ Refused
         | false ↦ elim (eqb size 0) [
-          | true ↦ elim (eqb head 4294967295) [ true ↦ Sound | false ↦ Unsound (NotNull 0 0) ]
+          | true ↦ elim (eqb head nullBlock) [ true ↦ Sound | false ↦ Unsound (NotNull 0 0) ]
           | false ↦
               andThen (falls (pointer image B) N (indexAt B (size - 1)) head []) (further (pointer image B) (indexAt B (size - 1)) head)
         ]
@@ -66,9 +67,9 @@ checkOf B N image head size =
 
 -- 01's number and values for each case: kind 0 is sound, then the kinds in the order of 01
 abbrev pub codeOf : Checked → ℤ
-codeOf Sound = pos 0
-codeOf (Unsound f) = pos 0
-codeOf Refused = negsuc 21
+codeOf Sound = accepted
+codeOf (Unsound f) = accepted
+codeOf Refused = invalid
 
 abbrev pub faultKind : Fault → ℕ
 faultKind (NotBelow i x) = 1

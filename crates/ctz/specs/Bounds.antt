@@ -1,5 +1,6 @@
 -- What the inner functions ask of their callers, as named bounds.
 use Prim.Native.Nat.{ℕ, suc, _+_, _*_, _≤_, _<_}
+use Rattle.layout.specs.Numbers.{sizeMax}
 use Rattle.layout.specs.Layout.{pointers}
 use Rattle.card.specs.Card.{Card}
 
@@ -11,7 +12,7 @@ pub record Walks (B N top len : ℕ) : Type 0 where
 -- A lookup behind its tests: a card, a size that is none too large, a position below it.
 pub record Sought (B N size p len : ℕ) : Type 0 where
   pub card : Card B N len
-  pub most : size ≤ 2147483647
+  pub most : size ≤ sizeMax
   pub below : p < size
 
 -- A run of indexes of a list that can be walked, with room for their blocks.

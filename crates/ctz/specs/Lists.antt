@@ -2,6 +2,7 @@
 use mathlib.Core.Path.{_≡_}
 use mathlib.Core.List.{List}
 use Prim.Native.Nat.{ℕ, zero, suc, _-_, _^_, _≤_, _<_}
+use Rattle.layout.specs.Numbers.{nullBlock}
 use Rattle.hops.specs.Walk.{ctz}
 use Rattle.layout.specs.Layout.{indexAt}
 use Rattle.card.specs.Blocks.{pointer}
@@ -23,5 +24,5 @@ pub record Sound (ptr : ℕ → ℕ → ℕ) (N head top : ℕ) : Type 0 where
 
 -- The list of a file of `size` bytes. An empty list is sound exactly if its head is null.
 pub record SoundList (image : List ℕ) (B N head size : ℕ) : Type 0 where
-  pub null : size ≡ 0 → head ≡ 4294967295
+  pub null : size ≡ 0 → head ≡ nullBlock
   pub list : 0 < size → Sound (pointer image B) N head (indexAt B (size - 1))

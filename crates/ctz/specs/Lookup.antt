@@ -3,8 +3,9 @@ use mathlib.Core.Bool.{true, false}
 use mathlib.Core.List.{List}
 use Prim.Native.Nat.{ℕ, zero, suc, _-_, _^_}
 use lib.Dec.{ltb, eqb}
-use lib.IntN.{ℤ, pos, negsuc}
+use lib.IntN.{ℤ}
 use lib.ListN.{length}
+use Rattle.layout.specs.Numbers.{accepted, damaged-card, invalid, nullBlock, sizeMax}
 use Rattle.hops.specs.Walk.{pick}
 use Rattle.layout.specs.Layout.{indexAt, offsetAt}
 use Rattle.card.specs.Blocks.{pointer}
@@ -36,10 +37,10 @@ unfoldable pub lookupOf : ℕ → ℕ → List ℕ → ℕ → ℕ → ℕ → F
 lookupOf B N image head size p =
     elim (goodCard B N (length image)) [
       | false ↦ Refused
-      | true ↦ elim (ltb 2147483647 size) [
+      | true ↦ elim (ltb sizeMax size) [
         | true ↦ Refused
         | false ↦ elim (eqb size 0) [
-          | true ↦ At 4294967295 0 0
+          | true ↦ At nullBlock 0 0
           | false ↦ elim (ltb p size) [ false ↦ Refused | true ↦ walkTo image B N head size p ]
         ]
       ]
@@ -47,9 +48,9 @@ lookupOf B N image head size p =
 
 -- 01's number and values for each case
 abbrev pub codeOf : Found → ℤ
-codeOf (At k off hops) = pos 0
-codeOf Damaged = negsuc 83
-codeOf Refused = negsuc 21
+codeOf (At k off hops) = accepted
+codeOf Damaged = damaged-card
+codeOf Refused = invalid
 
 abbrev pub blockOf : Found → ℕ
 blockOf (At k off hops) = k

@@ -4,6 +4,7 @@ use mathlib.Core.Bool.{Bool, true, false}
 use mathlib.Core.List.{List}
 use Prim.Native.Nat.{ℕ, suc, _+_, _≤_, _<_}
 use lib.ListN.{length, getD}
+use Rattle.layout.specs.Numbers.{nullBlock}
 use Rattle.ctz.specs.Bounds.{RunAsked}
 use Rattle.ctz.specs.Lookup.{walk}
 use Rattle.ctz.specs.declared.Found.{Found}
@@ -16,8 +17,8 @@ seek ptr N head top i = walk (suc top) ptr N 0 i top head 0
 -- the block that a lookup hands over; the null block where it hands over none
 abbrev pub numberOf : Found → ℕ
 numberOf (At k off hops) = k
-numberOf Damaged = 4294967295
-numberOf Refused = 4294967295
+numberOf Damaged = nullBlock
+numberOf Refused = nullBlock
 
 -- that lookup finds block k
 abbrev pub Finds : (ℕ → ℕ → ℕ) → ℕ → ℕ → ℕ → ℕ → ℕ → Type 0

@@ -4,8 +4,9 @@ use mathlib.Core.Bool.{Bool, true, false}
 use mathlib.Core.List.{List, [], _∷_}
 use Prim.Native.Nat.{ℕ, zero, suc, _-_, _%_}
 use lib.Dec.{ltb, eqb}
-use lib.IntN.{ℤ, pos, negsuc}
+use lib.IntN.{ℤ}
 use lib.ListN.{length}
+use Rattle.layout.specs.Numbers.{accepted, damaged-card, invalid, sizeMax}
 use Rattle.layout.specs.Geometry.{cardFits}
 use Rattle.layout.specs.Layout.{indexAt}
 use Rattle.card.specs.Blocks.{pointer}
@@ -65,7 +66,7 @@ unfoldable pub beginOf : ℕ → ℕ → ℕ → ℕ → Begun
 beginOf B N head size =
     elim (cardFits B N) [
       | false ↦ begun.Refused
-      | true ↦ elim (ltb 2147483647 size) [
+      | true ↦ elim (ltb sizeMax size) [
         | true ↦ begun.Refused
         | false ↦ elim (eqb size 0) [ true ↦ begun.Empty | false ↦ begun.At (visitAt head (indexAt B (size - 1))) ]
       ]
@@ -98,12 +99,12 @@ visitOf B N image head size =
 
 -- 01's number for each case
 abbrev pub beginCode : Begun → ℤ
-beginCode begun.Empty = pos 0
-beginCode (begun.At v) = pos 0
-beginCode begun.Refused = negsuc 21
+beginCode begun.Empty = accepted
+beginCode (begun.At v) = accepted
+beginCode begun.Refused = invalid
 
 abbrev pub stepCode : Step → ℤ
-stepCode step.Damaged = negsuc 83
-stepCode (step.Last k) = pos 0
-stepCode (step.More k v) = pos 0
-stepCode step.Refused = negsuc 21
+stepCode step.Damaged = damaged-card
+stepCode (step.Last k) = accepted
+stepCode (step.More k v) = accepted
+stepCode step.Refused = invalid

@@ -15,7 +15,7 @@ use Rattle.files.proofs.Replaced.{altered}
 use Rattle.plain.specs.Lists.{Good, SameBlocks}
 use Rattle.plain.proofs.Indexes.{card-of}
 use Rattle.window.specs.declared.Lookahead.{Lookahead}
-use Rattle.window.specs.Scan.{Seen, unseen, has, listedOf}
+use Rattle.window.specs.Scan.{Seen, unseen, listedOf}
 use Rattle.window.proofs.Cases.{no-both}
 use Rattle.windows.specs.Call.{Became, Clean}
 use Rattle.windows.proofs.Has.{else-false}
@@ -29,6 +29,7 @@ use Rattle.writes.proofs.Index.{in-block, start-lt}
 use Rattle.demands.specs.Came.{Among, here, there}
 use Rattle.demands.proofs.Tables.{listedBy, visit-told, SoundFiles, none, one, of-sounds, same-sounds, same-visits}
 use Rattle.demands.proofs.Store.{Before, After, Stored, newSize}
+use Rattle.span.specs.Members.{has}
 
 -- e is the file at place m
 pub data AtPlace (e : Entry) : ℕ → List Entry → Type 0 where

@@ -13,7 +13,7 @@ use Rattle.layout.specs.Place.{Sized}
 use Rattle.card.specs.Blocks.{pointer}
 use Rattle.ctz.specs.Visits.{Visited, hand, nextBlock, nextAfter, reads-two, visit, visitOf}
 use Rattle.files.specs.declared.Entry.{Entry}
-use Rattle.window.specs.Scan.{Seen, has, Below, seenAll, listedOf}
+use Rattle.window.specs.Scan.{Seen, Below, seenAll, listedOf}
 use Rattle.window.proofs.Cases.{no-both}
 use Rattle.windows.specs.Call.{Shows}
 use Rattle.windows.proofs.Has.{has-none, has-head, has-tail, has-cases, has-append, below-none, below-more, below-append}
@@ -24,6 +24,7 @@ use Rattle.writes.proofs.Cells.{pointer-same}
 use Rattle.demands.specs.Space.{readBy}
 use Rattle.demands.proofs.Tables.{listedBy, has-left, has-right}
 use Rattle.demands.proofs.Windows.{Listed}
+use Rattle.span.specs.Members.{has}
 
 -- ---- one visit
 

@@ -10,7 +10,6 @@ use Rattle.ctz.specs.Lists.{SoundList}
 use Rattle.ctz.specs.Visits.{Visited}
 use Rattle.ctz.proofs.Visiting.{visit-empty}
 use Rattle.files.specs.declared.Entry.{Entry}
-use Rattle.files.specs.Table.{nullBlock}
 use Rattle.files.specs.Change.{emptyFile, insertOf, withoutOf}
 use Rattle.files.proofs.Replaced.{altered}
 use Rattle.plain.specs.Lists.{Good}
@@ -24,6 +23,7 @@ use Rattle.alloc.specs.Visits.{seenOf, visitsOf}
 use Rattle.demands.proofs.Tables.{listedBy, SoundFiles, none, one}
 use Rattle.demands.proofs.Store.{Before}
 use Rattle.demands.proofs.Again.{sounds-set, visits-set}
+use Rattle.layout.specs.Numbers.{nullBlock}
 
 module _ (B N l : ℕ) (w : Lookahead) (img : List ℕ) where
   -- a table of sound lists that lists no more than another, with its window

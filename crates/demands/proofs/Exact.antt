@@ -13,10 +13,9 @@ use Rattle.card.proofs.Cards.{card}
 use Rattle.files.specs.declared.Entry.{Entry}
 use Rattle.files.specs.declared.Table.{Table}
 use Rattle.files.specs.declared.Found.the-variants as found
-use Rattle.files.specs.Table.{sizeMax, held, file}
+use Rattle.files.specs.Table.{held, file}
 use Rattle.files.specs.Find.{findOf}
 use Rattle.window.specs.declared.Lookahead.{Lookahead}
-use Rattle.window.specs.Scan.{has}
 use Rattle.window.specs.Value.{freshOf, checkpointOf, Sizes, Valid}
 use Rattle.window.proofs.Valid.{looks, tested-valid, valid-tested}
 use Rattle.windows.specs.Call.{Clean, Shows}
@@ -33,14 +32,15 @@ use Rattle.store.proofs.Tested.{tests, file-most}
 use Rattle.store.proofs.Calls as calls
 use Rattle.writes.specs.Allocator.{Stays}
 use Rattle.writes.specs.Plain.{need}
-use Rattle.writes.proofs.Counting.{some-need, Counted, corrupt, done, counted}
-use Rattle.writes.proofs.Counting.{full as no-room}
+use Rattle.writes.proofs.Counting.{some-need, Counted, corrupt, done, counted, full as no-room}
 use Rattle.demands.specs.Calls.{State, write, truncate, storedIn, after}
 use Rattle.demands.specs.Came.{Came}
 use Rattle.demands.specs.Space.{goodBlock, blocksFor, goodFree, usedIn, goodUsable, goodUnmarked, readBy, Apart, Free, Exactly, Spent, Settled}
 use Rattle.demands.proofs.Windows.{Used, Knowing, UsedUp, goodsLeft, counter}
 use Rattle.demands.proofs.AnyVisits.{all-below, seen-again, read-listed, shows, listed-below}
 use Rattle.demands.proofs.Came.{came-clean}
+use Rattle.layout.specs.Numbers.{sizeMax}
+use Rattle.span.specs.Members.{has}
 
 -- what a write of at least one byte to an entry answers where it is not -84
 pub record Decided (B N l needed free : ℕ) (o : WriteOut Lookahead) : Type 0 where

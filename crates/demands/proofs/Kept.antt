@@ -14,7 +14,7 @@ use Rattle.ctz.specs.Lists.{SoundList, at, down}
 use Rattle.device.specs.Health.{healthOk}
 use Rattle.files.specs.declared.Entry.{Entry}
 use Rattle.files.specs.declared.Table.{Table}
-use Rattle.files.specs.Table.{held, file, filesOk, tableOk, headMax}
+use Rattle.files.specs.Table.{held, file, filesOk, tableOk}
 use Rattle.files.specs.Change.{putOf}
 use Rattle.files.proofs.Laws.{first-good, rest-ok, held-ok}
 use Rattle.files.proofs.Tests.{both-right}
@@ -31,6 +31,7 @@ use Rattle.demands.proofs.Tables.{listedBy, SoundFiles, none, one, of-s
 use Rattle.demands.proofs.Store.{Before}
 use Rattle.demands.proofs.Again.{AtPlace}
 use Rattle.demands.proofs.Named.{Placed, first, next, placed-at}
+use Rattle.layout.specs.Numbers.{headMax}
 
 -- What holds before each store call on sound lists, and after it.
 pub record Held (B N l : ℕ) (s : State) : Type 0 where

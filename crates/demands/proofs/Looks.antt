@@ -15,7 +15,7 @@ use Rattle.files.specs.declared.Found.{Found}
 use Rattle.files.specs.declared.Found.the-variants as found
 use Rattle.files.specs.declared.Sized.the-variants as sized
 use Rattle.files.specs.declared.position.Sought.the-variants as sought
-use Rattle.files.specs.Table.{numberMax, sizeMax, held, file}
+use Rattle.files.specs.Table.{held, file}
 use Rattle.files.specs.Find.{findOf, sizeOf}
 use Rattle.files.specs.Seek.{whenceOf, seekOf}
 use Rattle.files.proofs.Cases as cases
@@ -37,6 +37,7 @@ use Rattle.demands.proofs.Again.{among-at}
 use Rattle.demands.proofs.Named.{Placed, placed-at, FindView, high, missing, at, find-view, number-high, number-none, number-some}
 use Rattle.demands.proofs.Contents.{placed-holds, unnamed-holds, placed-bytes}
 use Rattle.demands.proofs.Kept.{sound-files}
+use Rattle.layout.specs.Numbers.{numberMax, sizeMax}
 
 module _ {B N : ℕ} {s : State} (sounds : Sounds B N s) (number : ℕ) where
   abbrev t : Table

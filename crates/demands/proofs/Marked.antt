@@ -17,10 +17,9 @@ use Rattle.device.specs.Health.{eachValid, healthOk}
 use Rattle.files.specs.declared.Entry.{Entry}
 use Rattle.files.specs.Find.{searchOf, findOf}
 use Rattle.files.specs.Table.{headOk, entryOk, filesOk, tableOf, tableOk}
-use Rattle.window.specs.declared.Lookahead.{Lookahead}
 use Rattle.window.specs.Allocate.{allocBy, allocOf}
 use Rattle.window.specs.Marks.{markAll, markMap}
-use Rattle.window.specs.Scan.{cleared, has, listedOf, scanOf, seenAll}
+use Rattle.window.specs.Scan.{cleared, listedOf, scanOf, seenAll}
 use Rattle.window.specs.Search.{freeFrom, skip, takeOf}
 use Rattle.window.specs.Value.{lookaheadFits, validOf}
 use Rattle.windows.specs.Space.{tally, usedFor}
@@ -31,6 +30,7 @@ use Rattle.store.specs.Write.{fronted, filledOf, grownOf, writeOf, starts, want
 use Rattle.store.specs.Store.{puts, storeTruncate, truncateFile}
 use Rattle.demands.specs.Calls.{State, Left, truncate, after}
 use Rattle.demands.specs.Space.{goodFree, goodUsable, readBy, usedIn}
+use Rattle.span.specs.Members.{has}
 
 abbrev good : List ℕ
 good = 0 ∷ 0 ∷ []

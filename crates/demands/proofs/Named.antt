@@ -12,14 +12,14 @@ use Rattle.files.specs.declared.Entry.{Entry}
 use Rattle.files.specs.declared.Table.{Table}
 use Rattle.files.specs.declared.Found.{Found}
 use Rattle.files.specs.declared.Found.the-variants as found
-use Rattle.files.specs.Table.{numberMax, noEntry, held, file, tableOk}
+use Rattle.files.specs.Table.{noEntry, held, file, tableOk}
 use Rattle.files.specs.Find.{searchOf, findOf}
 use Rattle.files.proofs.Tests.{eqb-cases, leb-cases}
 use Rattle.files.proofs.Searches.{search-answers}
 use Rattle.files.proofs.Cases.{find-no-number, find-is, found-at}
 use Rattle.demands.specs.Plain.{PlainFile, holds, onFile}
-use Rattle.demands.proofs.Again.{AtPlace}
-use Rattle.demands.proofs.Again.{first as first-place, next as next-place}
+use Rattle.demands.proofs.Again.{AtPlace, first as first-place, next as next-place}
+use Rattle.layout.specs.Numbers.{numberMax}
 
 -- e is the first file of that number, at place m
 pub data Placed (number : ℕ) (e : Entry) : ℕ → List Entry → Type 0 where

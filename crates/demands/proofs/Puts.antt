@@ -11,7 +11,7 @@ use lib.ListN.{length}
 use Rattle.files.specs.declared.Table.{Table}
 use Rattle.files.specs.declared.Found.{Found}
 use Rattle.files.specs.declared.Found.the-variants as found
-use Rattle.files.specs.Table.{sizeMax, held, file}
+use Rattle.files.specs.Table.{held, file}
 use Rattle.files.specs.Find.{findOf}
 use Rattle.files.proofs.Tests.{ltb-cases, eqb-cases}
 use Rattle.plain.specs.Bytes.{bytes}
@@ -30,6 +30,7 @@ use Rattle.demands.proofs.Contents as contents
 use Rattle.demands.proofs.Kept.{Held, before, again, tested-sizes}
 use Rattle.demands.proofs.Ends.{Ends, refused, short, ends-same, ends-write}
 use Rattle.demands.proofs.Steps.{wrote-some, wrote-none}
+use Rattle.layout.specs.Numbers.{sizeMax}
 
 module _ {B N l : ℕ} {s : State} (h : Held B N l s) (health : List ℕ) (number : ℕ) where
   abbrev t : Table

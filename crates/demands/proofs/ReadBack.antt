@@ -11,7 +11,6 @@ use lib.ListN.{length, take, drop, length-take, length-append, length-replicate}
 use lib.Seq.{drop-at, take-append-seam}
 use Rattle.span.proofs.Parts.{sets-over}
 use Rattle.device.specs.Health.{healthOk}
-use Rattle.files.specs.Table.{numberMax, sizeMax}
 use Rattle.files.proofs.Tests.{ltb-cases, leb-cases, bool-cases}
 use Rattle.reading.specs.declared.Reading.the-variants as reading
 use Rattle.reading.specs.Calls.{readOf}
@@ -28,6 +27,7 @@ use Rattle.demands.proofs.Named.{number-some}
 use Rattle.demands.proofs.Steps.{wrote-some}
 use Rattle.demands.proofs.Demands.{accepted-plain, accepted-code}
 use Rattle.demands.proofs.Looks as looks
+use Rattle.layout.specs.Numbers.{numberMax, sizeMax}
 
 -- ---- a plain file that was written
 

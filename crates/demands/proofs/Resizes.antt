@@ -16,7 +16,7 @@ use Rattle.files.specs.declared.Entry.{Entry}
 use Rattle.files.specs.declared.Table.{Table}
 use Rattle.files.specs.declared.Found.{Found}
 use Rattle.files.specs.declared.Found.the-variants as found
-use Rattle.files.specs.Table.{sizeMax, nullBlock, held, file}
+use Rattle.files.specs.Table.{held, file}
 use Rattle.files.specs.Find.{findOf}
 use Rattle.files.proofs.Tests.{ltb-cases, eqb-cases}
 use Rattle.plain.specs.Lists.{Good}
@@ -43,6 +43,7 @@ use Rattle.demands.proofs.Contents as contents
 use Rattle.demands.proofs.Kept.{Held, before, again, tested-sizes, sound-files}
 use Rattle.demands.proofs.Ends.{Ends, accepted, refused, short, ends-truncate}
 use Rattle.demands.proofs.Steps.{resized-less, resized-more, empty-bytes}
+use Rattle.layout.specs.Numbers.{sizeMax, nullBlock}
 
 -- a truncate to the length that a plain file has
 resized-same : {number m : ℕ} {e : Entry} {es : List Entry} (B : ℕ) (img : List ℕ) (size : ℕ) → Placed number e m es → length (bytes img B (e .head) (e .size)) ≡ size

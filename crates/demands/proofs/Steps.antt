@@ -13,7 +13,7 @@ use Rattle.files.specs.declared.Table.{Table}
 use Rattle.files.specs.declared.Found.{Found}
 use Rattle.files.specs.declared.Found.the-variants as found
 use Rattle.files.specs.declared.change.Changed.{Changed}
-use Rattle.files.specs.Table.{filesMax, held, tableOf, tableOk}
+use Rattle.files.specs.Table.{held, tableOf, tableOk}
 use Rattle.files.specs.Find.{findOf}
 use Rattle.files.specs.Change.{createOf, removeOf, insertOf, withoutOf}
 use Rattle.files.proofs.Laws.{held-length}
@@ -32,6 +32,7 @@ use Rattle.demands.proofs.Named.{Unnamed, FindView, high, missing, at, 
 use Rattle.demands.proofs.Contents as contents
 use Rattle.demands.proofs.Kept.{Held, before, again}
 use Rattle.demands.proofs.Ends.{Ends, accepted, refused}
+use Rattle.layout.specs.Numbers.{filesMax}
 
 -- a write of at least one byte to a plain file
 pub wrote-some : (p : ℕ) (src bs : List ℕ) → (length src ≡ 0 → ⊥) → plainWrite bs p src ≡ wrote p src bs

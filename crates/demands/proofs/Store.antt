@@ -19,7 +19,7 @@ use Rattle.plain.proofs.Indexes.{card-of}
 use Rattle.plain.proofs.Finding.{walk-sound}
 use Rattle.plain.proofs.Frames as frames
 use Rattle.window.specs.declared.Lookahead.{Lookahead}
-use Rattle.window.specs.Scan.{has, seenAll}
+use Rattle.window.specs.Scan.{seenAll}
 use Rattle.window.specs.Value.{Valid, Sizes, checkpointOf}
 use Rattle.windows.specs.Call.{Clean, During, Became, Lists}
 use Rattle.windows.proofs.InCall.{begins, clean-after}
@@ -35,6 +35,7 @@ use Rattle.demands.proofs.Files.{bytes-is}
 use Rattle.demands.proofs.Windows.{Listed, InCall, windowed, in-has}
 use Rattle.demands.specs.Came.{Among}
 use Rattle.demands.proofs.Tables.{listedBy, SoundFiles, of-sounds, listed-at, same-file, told-anew}
+use Rattle.span.specs.Members.{has}
 
 -- What a call is given: a card of sound lists, and a window that is valid and clean for them.
 pub record Before (B N l : ℕ) (files : List Entry) (w : Lookahead) (img : List ℕ) : Type 0 where

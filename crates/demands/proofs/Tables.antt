@@ -18,7 +18,7 @@ use Rattle.plain.proofs.Indexes.{used-index, index-used}
 use Rattle.ctz.proofs.Visiting.{visit-empty}
 use Rattle.plain.proofs.Finding.{visit-sound}
 use Rattle.plain.proofs.Frames as frames
-use Rattle.window.specs.Scan.{Seen, has, Below, seenAll, listedOf}
+use Rattle.window.specs.Scan.{Seen, Below, seenAll, listedOf}
 use Rattle.windows.specs.Call.{Lists}
 use Rattle.windows.proofs.Has.{or-right, has-none, has-append}
 use Rattle.windows.proofs.Listed as visits
@@ -28,6 +28,7 @@ use Rattle.writes.specs.Lists.{blockAt}
 use Rattle.writes.specs.Allocator.{Stays}
 use Rattle.demands.specs.Came.{Among, here, there}
 use Rattle.demands.proofs.Windows.{Listed}
+use Rattle.span.specs.Members.{has}
 
 -- what the visits of these files hand over
 abbrev pub listedBy : ℕ → ℕ → List Entry → List ℕ → List ℕ

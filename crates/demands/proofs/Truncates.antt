@@ -22,7 +22,7 @@ use Rattle.plain.proofs.Indexes.{used-index}
 use Rattle.plain.proofs.Finding.{lookup-block}
 use Rattle.plain.proofs.Files.{shrink-found}
 use Rattle.window.specs.declared.Lookahead.{Lookahead}
-use Rattle.window.specs.Scan.{Seen, unseen, has, listedOf}
+use Rattle.window.specs.Scan.{Seen, unseen, listedOf}
 use Rattle.window.proofs.Cases.{no-both}
 use Rattle.windows.specs.Call.{Became, Clean}
 use Rattle.windows.proofs.Has.{else-false}
@@ -36,6 +36,7 @@ use Rattle.writes.proofs.Plain.{plain-zeros}
 use Rattle.demands.proofs.Tables.{listedBy, visit-told, of-sounds}
 use Rattle.demands.proofs.Store.{Before}
 use Rattle.demands.proofs.Again.{AtPlace, among-at, sounds-set, visits-set, visits-at}
+use Rattle.span.specs.Members.{has}
 
 -- What a write of n zeros at the old size leaves is the file with n zeros behind it.
 pub grow-plain : (img : List ℕ) (B head size n : ℕ) → plainWrite (bytes img B head size) size (zeros n) ≡ bytes img B head size ++ zeros n

@@ -16,7 +16,7 @@ use Rattle.window.specs.declared.Lookahead.{Lookahead}
 use Rattle.window.specs.declared.Answer.{Answer}
 use Rattle.window.specs.declared.Answer.the-variants as answer
 use Rattle.window.specs.Allocate.{allocOf}
-use Rattle.window.specs.Scan.{Seen, has}
+use Rattle.window.specs.Scan.{Seen}
 use Rattle.window.specs.Value.{Sizes, Valid}
 use Rattle.window.proofs.Cases.{no-both}
 use Rattle.windows.specs.Call.{Claim, cleanly, On, Handed, View, handed, full, bad, Result, Lists, Shows, During, New, isBlock}
@@ -29,6 +29,7 @@ use Rattle.windows.proofs.Listed.{lists-tells}
 use Rattle.writes.specs.Allocator.{In, Known, Stays, bump, Taken, Allocator, Drawn, Counter}
 use Rattle.alloc.specs.Visits.{seenIn}
 use Rattle.demands.specs.Space.{goodOf, goodBlock}
+use Rattle.span.specs.Members.{has}
 
 -- ---- what an answer tells
 

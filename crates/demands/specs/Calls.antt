@@ -1,7 +1,8 @@
 -- The store calls, and what each leaves by its own definition (01, "Store calls").
 use mathlib.Core.List.{List}
 use Prim.Native.Nat.{ℕ}
-use lib.IntN.{ℤ, pos}
+use lib.IntN.{ℤ}
+use Rattle.layout.specs.Numbers.{accepted}
 use Rattle.files.specs.declared.Table.{Table}
 use Rattle.files.specs.declared.change.Changed.{Changed}
 use Rattle.files.specs.Change.{createOf, removeOf, changeCode}
@@ -45,4 +46,4 @@ after B N l health (create number) s = changedIn s (createOf (s .table) number)
 after B N l health (remove number) s = changedIn s (removeOf (s .table) number)
 after B N l health (write number p src) s = storedIn (storeWrite B N l (s .image) health (s .window) (s .table) number p src)
 after B N l health (truncate number size) s = storedIn (storeTruncate B N l (s .image) health (s .window) (s .table) number size)
-after B N l health look s = record { code = pos 0; state = s }
+after B N l health look s = record { code = accepted; state = s }

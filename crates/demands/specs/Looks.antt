@@ -3,7 +3,7 @@ use mathlib.Core.Bool.{true, false}
 use mathlib.Core.List.{List, []}
 use Prim.Native.Nat.{ℕ, _-_, min}
 use lib.Dec.{leb, ltb}
-use lib.IntN.{ℤ, pos, negsuc}
+use lib.IntN.{ℤ}
 use lib.ListN.{length, take, drop}
 use lib.Seq.{sets}
 use Rattle.layout.specs.Layout.{offsetAt}
@@ -11,11 +11,11 @@ use Rattle.files.specs.declared.Sized.{Sized}
 use Rattle.files.specs.declared.Sized.the-variants as sized
 use Rattle.files.specs.declared.position.Sought.{Sought}
 use Rattle.files.specs.declared.position.Sought.the-variants as sought
-use Rattle.files.specs.Table.{sizeMax}
 use Rattle.files.specs.Seek.{whenceOf}
 use Rattle.reading.specs.declared.Reading.the-variants as reading
 use Rattle.reading.specs.Calls.{Outcome}
 use Rattle.demands.specs.Plain.{PlainFile, bytesOf, onFile, unless}
+use Rattle.layout.specs.Numbers.{sizeMax, accepted, invalid, no-file}
 
 abbrev pub plainSize : ℕ → List PlainFile → Sized
 plainSize number fs = onFile number fs sized.Refused sized.Missing (sized.Bytes (length (bytesOf number fs)))
@@ -46,4 +46,4 @@ plainStretch B number p fs =
     (elim (ltb sizeMax p) [ true ↦ [] | false ↦ take (min (B - offsetAt B p) (length (bytesOf number fs) - p)) (drop p (bytesOf number fs)) ])
 
 abbrev pub stretchCode : ℕ → ℕ → List PlainFile → ℤ
-stretchCode number p fs = onFile number fs (negsuc 21) (negsuc 1) (unless (ltb sizeMax p) (negsuc 21) (pos 0))
+stretchCode number p fs = onFile number fs invalid no-file (unless (ltb sizeMax p) invalid accepted)

@@ -3,12 +3,12 @@ use mathlib.Core.Bool.{Bool, true, false}
 use mathlib.Core.List.{List, [], _∷_, _++_}
 use Prim.Native.Nat.{ℕ, _+_, _-_}
 use lib.Dec.{ltb, leb, eqb}
-use lib.IntN.{ℤ, pos, negsuc}
+use lib.IntN.{ℤ, pos}
 use lib.ListN.{length, take}
-use Rattle.files.specs.Table.{filesMax, numberMax, sizeMax}
 use Rattle.store.specs.Write.{zeros}
 use Rattle.writes.specs.Plain.{plainWrite}
 use Rattle.demands.specs.Calls.{Call, create, remove, write, truncate, look}
+use Rattle.layout.specs.Numbers.{filesMax, numberMax, sizeMax, accepted, file-exists, invalid, no-file, table-full, too-large}
 
 -- a plain file: its number and its bytes; a plain store is a list of them, numbers rising
 pub record PlainFile : Type 0 where
@@ -76,13 +76,13 @@ unless false refusal code = code
 
 -- 01's number for a call on plain files: -22, -2, -17, -12, -27, or 0. `fits`: health bytes and L are not refused.
 abbrev pub plainCode : Bool → Call → List PlainFile → ℤ
-plainCode fits (create number) fs = onFile number fs (negsuc 21) (unless (leb filesMax (length fs)) (negsuc 11) (pos 0)) (negsuc 16)
-plainCode fits (remove number) fs = onFile number fs (negsuc 21) (negsuc 1) (pos 0)
+plainCode fits (create number) fs = onFile number fs invalid (unless (leb filesMax (length fs)) table-full accepted) file-exists
+plainCode fits (remove number) fs = onFile number fs invalid no-file accepted
 plainCode fits (write number p src) fs =
     elim fits [
-      | false ↦ negsuc 21
-      | true ↦ onFile number fs (negsuc 21) (negsuc 1) (unless (ltb sizeMax p) (negsuc 21) (unless (ltb sizeMax (p + length src)) (negsuc 26) (pos 0)))
+      | false ↦ invalid
+      | true ↦ onFile number fs invalid no-file (unless (ltb sizeMax p) invalid (unless (ltb sizeMax (p + length src)) too-large accepted))
     ]
 plainCode fits (truncate number size) fs =
-    elim fits [ false ↦ negsuc 21 | true ↦ onFile number fs (negsuc 21) (negsuc 1) (unless (ltb sizeMax size) (negsuc 21) (pos 0)) ]
-plainCode fits look fs = pos 0
+    elim fits [ false ↦ invalid | true ↦ onFile number fs invalid no-file (unless (ltb sizeMax size) invalid accepted) ]
+plainCode fits look fs = accepted

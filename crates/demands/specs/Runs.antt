@@ -4,6 +4,7 @@ use mathlib.Core.List.{List, [], _∷_, map}
 use Prim.Native.Nat.{ℕ}
 use lib.Dec.{eqb}
 use lib.IntN.{ℤ, pos, negsuc}
+use Rattle.layout.specs.Numbers.{no-space}
 use Rattle.device.specs.Health.{healthOk}
 use Rattle.files.specs.declared.Entry.{Entry}
 use Rattle.files.specs.Table.{held}
@@ -46,7 +47,7 @@ ran B N l (c ∷ cs) s = ran B N l cs (after B N l (c .health) (c .call) s .stat
 -- a refused call changes nothing; so does one that asks for blocks where they are short (-28)
 abbrev pub answered : ℤ → Bool → Call → List PlainFile → (ℤ → List PlainFile → Run) → Run
 answered (negsuc k) short c fs go = go (negsuc k) fs
-answered (pos k) true c fs go = go (negsuc 27) fs
+answered (pos k) true c fs go = go no-space fs
 answered (pos k) false c fs go = go (pos k) (plainAfter c fs)
 
 -- the same calls on plain files, told only of each whether it fits and whether blocks are short

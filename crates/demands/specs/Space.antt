@@ -3,18 +3,19 @@ use mathlib.Core.Path.{_≡_}
 use mathlib.Core.Bool.{Bool, true, false, _||_}
 use mathlib.Core.List.{List, [], _∷_, _++_}
 use Prim.Native.Nat.{ℕ, _+_, _-_, _≤_, _<_, min, max}
-use lib.IntN.{ℤ, pos, negsuc}
+use lib.IntN.{ℤ}
 use lib.ListN.{length, take}
+use Rattle.layout.specs.Numbers.{accepted, no-space}
 use Rattle.layout.specs.Layout.{indexAt}
 use Rattle.ctz.specs.Visits.{visitOf}
 use Rattle.files.specs.declared.Entry.{Entry}
 use Rattle.files.specs.Table.{held}
 use Rattle.alloc.specs.Visits.{listedIn}
-use Rattle.window.specs.Scan.{has}
 use Rattle.windows.specs.Space.{goodUnlisted, goodUnused, markedIn, usedFor}
 use Rattle.store.specs.Calls.{testedOf}
 use Rattle.demands.specs.Calls.{State, Left}
 use Rattle.device.specs.Device.{refusesErase, refusesProgram}
+use Rattle.span.specs.Members.{has}
 
 -- a good block takes an erase and a program: it refuses neither
 abbrev pub goodOf : Bool → Bool → Bool
@@ -61,8 +62,8 @@ pub record Free (B N : ℕ) (health : List ℕ) (s : State) (free : ℕ) : Type 
 
 -- "-28 exactly if fewer good unlisted blocks exist than it needs", and else accepted
 pub record Exactly (needed free : ℕ) (code : ℤ) : Type 0 where
-  pub full : free < needed → code ≡ negsuc 27
-  pub enough : needed ≤ free → code ≡ pos 0
+  pub full : free < needed → code ≡ no-space
+  pub enough : needed ≤ free → code ≡ accepted
 
 -- what -28 leaves: the table, a state that is not refused, and nothing of the window
 pub record Spent (B N l : ℕ) (health : List ℕ) (s s′ : State) : Type 0 where
@@ -73,4 +74,4 @@ pub record Spent (B N l : ℕ) (health : List ℕ) (s s′ : State) : Type 0 whe
 -- "-28 exactly", and what it leaves
 pub record Settled (B N l : ℕ) (health : List ℕ) (needed free : ℕ) (s : State) (o : Left) : Type 0 where
   pub exactly : Exactly needed free (o .code)
-  pub spent : o .code ≡ negsuc 27 → Spent B N l health s (o .state)
+  pub spent : o .code ≡ no-space → Spent B N l health s (o .state)

@@ -17,13 +17,14 @@ use Rattle.files.specs.declared.Found.the-variants as found
 use Rattle.files.specs.declared.Sized.the-variants as sized
 use Rattle.files.specs.declared.change.Change.the-variants as change
 use Rattle.files.specs.declared.position.Sought.the-variants as sought
-use Rattle.files.specs.Table.{filesMax, numberMax, sizeMax, noEntry, held, file, tableOf, tableOk}
+use Rattle.files.specs.Table.{noEntry, held, file, tableOf, tableOk}
 use Rattle.files.specs.Find.{searchOf, findOf, sizeOf}
 use Rattle.files.specs.Change.{emptyFile, placeOf, insertOf, withoutOf, changed, createOf, removeOf}
 use Rattle.files.specs.Seek.{whenceOf, seekOf}
 use Rattle.files.proofs.Tests.{bool-cases, leb-cases}
 use Rattle.files.proofs.Laws.{held-length, count-ok}
 use Rattle.files.proofs.Lists.{stands, insert-at}
+use Rattle.layout.specs.Numbers.{filesMax, numberMax, sizeMax}
 
 module _ (t : Table) (number : ℕ) where
   pub find-no-table : tableOk t ≡ false → findOf t number ≡ found.Refused

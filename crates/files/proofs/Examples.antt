@@ -7,10 +7,11 @@ use Rattle.files.specs.declared.Entry.{Entry}
 use Rattle.files.specs.declared.Table.{Table}
 use Rattle.files.specs.declared.change.Change.the-variants as change
 use Rattle.files.specs.declared.position.Sought.the-variants as sought
-use Rattle.files.specs.Table.{filesMax, headOk, entryOk, filesOk, tableOf, tableOk}
+use Rattle.files.specs.Table.{headOk, entryOk, filesOk, tableOf, tableOk}
 use Rattle.files.specs.Find.{searchOf, findOf}
 use Rattle.files.specs.Change.{emptyFile, createOf}
 use Rattle.files.specs.Seek.{withinOf, whenceOf, seekOf}
+use Rattle.layout.specs.Numbers.{filesMax}
 
 -- as many files as a table holds, numbers 0, 1, 2, ..
 unfoldable pub upwards : ℕ → ℕ → List Entry

@@ -16,7 +16,7 @@ use Rattle.files.specs.declared.Sized.the-variants as sized
 use Rattle.files.specs.declared.change.Change.{Change}
 use Rattle.files.specs.declared.change.Change.the-variants as change
 use Rattle.files.specs.declared.change.Changed.{Changed}
-use Rattle.files.specs.Table.{filesMax, numberMax, noEntry, held, file, tableOf, tableOk}
+use Rattle.files.specs.Table.{noEntry, held, file, tableOf, tableOk}
 use Rattle.files.specs.Find.{findOf, sizeOf}
 use Rattle.files.specs.Change.{emptyFile, placeOf, insertOf, withoutOf, changed, createOf, removeOf}
 use Rattle.files.proofs.Tests.{leb-cases, ltb-cases}
@@ -25,6 +25,7 @@ use Rattle.files.proofs.Lists.{held-of, of-ok}
 use Rattle.files.proofs.Cases
 use Rattle.files.proofs.Others.{fileOf, insert-other, insert-own, without-insert, insert-length, insert-ok, without-other, without-own, without-ok, without-length}
 use Rattle.files.proofs.Searches.{missing-none, found-some, search-insert, search-answers}
+use Rattle.layout.specs.Numbers.{filesMax, numberMax}
 
 -- ---- the answers of find, and the size by the file
 

@@ -11,8 +11,9 @@ use lib.Dec.{leb, eqb}
 use borrow.Author.Tests.{leb-true, eqb-true, le-leb, lt-leb, eq-eqb, ne-eqb}
 use Rattle.files.specs.declared.Entry.{Entry}
 use Rattle.files.specs.declared.Table.{Table}
-use Rattle.files.specs.Table.{filesMax, numberMax, sizeMax, nullBlock, headMax, noEntry, held, file, headOk, entryOk, filesOk, tableOk, Valid}
+use Rattle.files.specs.Table.{noEntry, held, file, headOk, entryOk, filesOk, tableOk, Valid}
 use Rattle.files.proofs.Tests.{both-left, both-right, eqb-cases}
+use Rattle.layout.specs.Numbers.{filesMax, numberMax, sizeMax, nullBlock, headMax}
 
 -- a file that can stand in a table, with a number from `least` on
 pub record Good (least : ℕ) (e : Entry) : Type 0 where

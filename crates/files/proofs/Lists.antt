@@ -10,11 +10,12 @@ use lib.Seq.{slice, sets, set-append-seam, append-snoc, take-take, take-append-s
 use Rattle.files.specs.declared.Entry.{Entry}
 use Rattle.files.specs.declared.Table.{Table}
 use Rattle.files.specs.declared.Found.the-variants as found
-use Rattle.files.specs.Table.{filesMax, noEntry, held, tableOf, filesOk, tableOk}
+use Rattle.files.specs.Table.{noEntry, held, tableOf, filesOk, tableOk}
 use Rattle.files.specs.Find.{searchOf}
 use Rattle.files.specs.Change.{emptyFile, placeOf, insertOf, withoutOf, appendOf}
 use Rattle.files.proofs.Tests.{ltb-cases, eqb-cases}
 use Rattle.files.proofs.Laws.{count-ok, held-length, table-ok}
+use Rattle.layout.specs.Numbers.{filesMax}
 
 -- files stored one by one over zero entries
 pub sets-pad : (es vs : List Entry) (k : ℕ) → sets (es ++ replicate (length vs + k) noEntry) (length es) vs ≡ (es ++ vs) ++ replicate k noEntry

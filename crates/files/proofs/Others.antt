@@ -9,10 +9,11 @@ use lib.ListN.{length}
 use lib.Dec.{eqb}
 use borrow.Author.Tests.{lt-ltb, le-ltb, eq-eqb, ne-eqb}
 use Rattle.files.specs.declared.Entry.{Entry}
-use Rattle.files.specs.Table.{numberMax, filesOk}
+use Rattle.files.specs.Table.{filesOk}
 use Rattle.files.specs.Change.{emptyFile, insertOf, withoutOf}
 use Rattle.files.proofs.Tests.{ltb-cases, eqb-cases}
 use Rattle.files.proofs.Laws.{Good, first-good, rest-ok, nothing-ok, join-ok, looser}
+use Rattle.layout.specs.Numbers.{numberMax}
 
 -- the file of this number, if there is one
 unfoldable pub fileOf : ℕ → List Entry → Option Entry

@@ -10,7 +10,7 @@ use Rattle.files.specs.declared.Entry.{Entry}
 use Rattle.files.specs.declared.Table.{Table}
 use Rattle.files.specs.declared.Found.the-variants as found
 use Rattle.files.specs.declared.Sized.the-variants as sized
-use Rattle.files.specs.Table.{numberMax, sizeMax, nullBlock, headMax, noEntry, held, file, filesOk, tableOk}
+use Rattle.files.specs.Table.{noEntry, held, file, filesOk, tableOk}
 use Rattle.files.specs.Find.{searchOf, findOf, sizeOf}
 use Rattle.files.specs.Change.{putOf}
 use Rattle.files.proofs.Tests.{leb-cases, eqb-cases}
@@ -18,6 +18,7 @@ use Rattle.files.proofs.Laws.{Good, first-good, rest-ok, join-ok, slots
 use Rattle.files.proofs.Cases.{find-is, find-no-number, found-at, size-at, size-missing, size-refused}
 use Rattle.files.proofs.Searches.{search-here, search-on}
 use Rattle.files.proofs.Kept.{found-cases}
+use Rattle.layout.specs.Numbers.{numberMax, sizeMax, nullBlock, headMax}
 
 -- a size and a head that can stand in a table
 pub record Fitting (size head : ℕ) : Type 0 where

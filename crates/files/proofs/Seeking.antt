@@ -11,9 +11,9 @@ use mir.Val.{Fits, SFits, toZ, ofZ}
 use mir.Facts.{toZ-ofZ, toZ-pos}
 use borrow.Author.Tests.{le-leb, lt-leb, ltb-true, ltb-false}
 use Rattle.files.specs.declared.position.Sought.the-variants as sought
-use Rattle.files.specs.Table.{sizeMax}
 use Rattle.files.specs.Seek.{withinOf, whenceOf}
 use Rattle.files.proofs.Tests.{ltb-cases}
+use Rattle.layout.specs.Numbers.{sizeMax}
 
 -- the sum as the code has it, read back from its bits
 abbrev pub sumOf : ℕ → ℤ → ℤ

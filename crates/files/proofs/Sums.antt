@@ -8,11 +8,12 @@ use borrow.Author.Tests.{le-leb, lt-leb}
 use Rattle.files.specs.declared.Table.{Table}
 use Rattle.files.specs.declared.Found.the-variants as found
 use Rattle.files.specs.declared.position.Sought.the-variants as sought
-use Rattle.files.specs.Table.{sizeMax, file}
+use Rattle.files.specs.Table.{file}
 use Rattle.files.specs.Find.{findOf}
 use Rattle.files.specs.Seek.{withinOf, whenceOf, seekOf}
 use Rattle.files.proofs.Tests.{leb-cases}
 use Rattle.files.proofs.Cases.{seek-at}
+use Rattle.layout.specs.Numbers.{sizeMax}
 
 -- what whence adds to: 0, the position, the size
 pub data Base (position size : ℕ) : ℤ → ℕ → Type 0 where

@@ -6,15 +6,16 @@ use Prim.Native.Nat.{ℕ, suc, _+_, _-_, _≤_}
 use lib.ListN.{length, set}
 use lib.Seq.{sets}
 use lib.Dec.{ltb, eqb}
-use lib.IntN.{ℤ, pos, negsuc}
+use lib.IntN.{ℤ}
 use Rattle.files.specs.declared.Entry.{Entry}
 use Rattle.files.specs.declared.Table.{Table}
 use Rattle.files.specs.declared.Found.the-variants as found
 use Rattle.files.specs.declared.change.Change.{Change}
 use Rattle.files.specs.declared.change.Change.the-variants as change
 use Rattle.files.specs.declared.change.Changed.{Changed}
-use Rattle.files.specs.Table.{filesMax, nullBlock, held, file, tableOf}
+use Rattle.files.specs.Table.{held, file, tableOf}
 use Rattle.files.specs.Find.{findOf}
+use Rattle.layout.specs.Numbers.{filesMax, nullBlock, accepted, file-exists, invalid, no-file, table-full}
 
 -- an empty file
 abbrev pub emptyFile : ℕ → Entry
@@ -74,11 +75,11 @@ removeOf t number =
 
 -- -2 no such file; -12 32 files held; -17 exists; -22 table value, file number
 abbrev pub changeCode : Change → ℤ
-changeCode change.Done = pos 0
-changeCode change.Missing = negsuc 1
-changeCode change.Full = negsuc 11
-changeCode change.Exists = negsuc 16
-changeCode change.Refused = negsuc 21
+changeCode change.Done = accepted
+changeCode change.Missing = no-file
+changeCode change.Full = table-full
+changeCode change.Exists = file-exists
+changeCode change.Refused = invalid
 
 -- the table with another size and head of file i: the store's change
 abbrev pub putOf : Table → ℕ → ℕ → ℕ → Table

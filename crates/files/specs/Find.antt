@@ -3,14 +3,15 @@ use mathlib.Core.Bool.{true, false}
 use mathlib.Core.List.{List, [], _∷_}
 use Prim.Native.Nat.{ℕ, suc}
 use lib.Dec.{leb, eqb}
-use lib.IntN.{ℤ, pos, negsuc}
+use lib.IntN.{ℤ}
 use Rattle.files.specs.declared.Entry.{Entry}
 use Rattle.files.specs.declared.Table.{Table}
 use Rattle.files.specs.declared.Found.{Found}
 use Rattle.files.specs.declared.Found.the-variants as found
 use Rattle.files.specs.declared.Sized.{Sized}
 use Rattle.files.specs.declared.Sized.the-variants as sized
-use Rattle.files.specs.Table.{held, file, tableOk, numberMax}
+use Rattle.files.specs.Table.{held, file, tableOk}
+use Rattle.layout.specs.Numbers.{numberMax, accepted, invalid, no-file}
 
 -- the place of file `number` among these files, the first of which has place i
 unfoldable pub searchOf : ℕ → ℕ → List Entry → Found
@@ -27,9 +28,9 @@ findOf t number =
 
 -- -2 no such file; -22 table value, file number above 65,535
 abbrev pub foundCode : Found → ℤ
-foundCode (found.At i) = pos 0
-foundCode found.Missing = negsuc 1
-foundCode found.Refused = negsuc 21
+foundCode (found.At i) = accepted
+foundCode found.Missing = no-file
+foundCode found.Refused = invalid
 
 -- the size of a file
 unfoldable pub sizeOf : Table → ℕ → Sized
@@ -42,9 +43,9 @@ sizeOf t number =
 
 -- the same numbers
 abbrev pub sizedCode : Sized → ℤ
-sizedCode (sized.Bytes n) = pos 0
-sizedCode sized.Missing = negsuc 1
-sizedCode sized.Refused = negsuc 21
+sizedCode (sized.Bytes n) = accepted
+sizedCode sized.Missing = no-file
+sizedCode sized.Refused = invalid
 
 -- a refusal hands out 0
 abbrev pub sizedValue : Sized → ℕ

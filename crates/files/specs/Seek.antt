@@ -7,8 +7,9 @@ use Rattle.files.specs.declared.Table.{Table}
 use Rattle.files.specs.declared.Found.the-variants as found
 use Rattle.files.specs.declared.position.Sought.{Sought}
 use Rattle.files.specs.declared.position.Sought.the-variants as sought
-use Rattle.files.specs.Table.{file, sizeMax}
+use Rattle.files.specs.Table.{file}
 use Rattle.files.specs.Find.{findOf}
+use Rattle.layout.specs.Numbers.{sizeMax, accepted, invalid, no-file}
 
 -- a sum below 0 or above the largest size is -22
 unfoldable pub withinOf : ℤ → Sought
@@ -37,9 +38,9 @@ seekOf t number position offset whence =
 
 -- -2 no such file; -22 table value, file number, position or whence sum
 abbrev pub soughtCode : Sought → ℤ
-soughtCode (sought.At n) = pos 0
-soughtCode sought.Missing = negsuc 1
-soughtCode sought.Refused = negsuc 21
+soughtCode (sought.At n) = accepted
+soughtCode sought.Missing = no-file
+soughtCode sought.Refused = invalid
 
 -- a refusal hands out 0
 abbrev pub soughtValue : Sought → ℕ

@@ -5,25 +5,9 @@ use Prim.Native.Nat.{ℕ, zero, suc, _-_, _≤_, _<_}
 use mathlib.Core.Path.{_≡_}
 use lib.ListN.{length, take, getD, replicate}
 use lib.Dec.{leb, eqb}
+use Rattle.layout.specs.Numbers.{filesMax, numberMax, sizeMax, nullBlock, headMax}
 use Rattle.files.specs.declared.Entry.{Entry}
 use Rattle.files.specs.declared.Table.{Table}
-
--- at most 32 files, numbers 0 to 65,535
-abbrev pub filesMax : ℕ
-filesMax = 32
-
-abbrev pub numberMax : ℕ
-numberMax = 65535
-
--- sizes up to the largest; the null block, and the largest block number that a head can be
-abbrev pub sizeMax : ℕ
-sizeMax = 2147483647
-
-abbrev pub nullBlock : ℕ
-nullBlock = 4294967295
-
-abbrev pub headMax : ℕ
-headMax = 65535
 
 -- what stands in a slot past the count
 abbrev pub noEntry : Entry

@@ -10,8 +10,9 @@ ghost use Prim.Native.Nat.{_+_, _≤_, _<_};
 ghost use mathlib.Core.List.{_∷_, _++_};
 ghost use lib.ListN.{take, drop};
 ghost use lib.Seq.{slice};
-ghost use Rattle.files.specs.Table.{filesMax, held, tableOf, tableOk};
+ghost use Rattle.files.specs.Table.{held, tableOf, tableOk};
 ghost use Rattle.files.specs.Change.{Room, emptyFile, placeOf, appendOf, createOf, removeOf, putOf};
+ghost use Rattle.layout.specs.Numbers.{filesMax};
 
 // What became of a table, and the table.
 pub enum Change {

@@ -19,7 +19,6 @@ use Rattle.device.specs.Bounds.{Blank}
 use Rattle.device.specs.Device.{stored, wiped, refusesErase}
 use Rattle.device.proofs.Blanks.{blank-wiped, blank-part, blank-stored}
 use Rattle.files.specs.declared.Table.{Table}
-use Rattle.files.specs.Table.{sizeMax}
 use Rattle.window.specs.declared.Lookahead.{Lookahead}
 use Rattle.window.specs.declared.Answer.{Answer}
 use Rattle.window.specs.declared.Answer.the-variants as answer
@@ -35,6 +34,7 @@ use Rattle.grow.specs.Extend.{windowAlloc, extendIn, Extending}
 use Rattle.grow.proofs.Links.{link-empty, link-damaged, link-copied, link-pointers, link-rest, used-fits, next-room}
 use Rattle.grow.proofs.Turns.{grow-none, grow-bad, grow-kept, grow-spoiled, grow-linked}
 use Rattle.grow.proofs.Takes.{Outcome, allocated, took-block, took-none, took-bad, took-refused}
+use Rattle.layout.specs.Numbers.{sizeMax}
 
 -- the ways of an answer that a link gives for block k, with its image: made, with erased room in the block, or -84
 pub data Ends (B k : ℕ) : Growth → List ℕ → Type 0 where

@@ -18,13 +18,13 @@ use Rattle.device.specs.declared.Programmed.{Programmed}
 use Rattle.device.specs.declared.Programmed.the-variants.{Stored, Refused}
 use Rattle.device.specs.Device.{stored, programOf, ProgramGives}
 use Rattle.device.proofs.Steps.{told-stored, told-refused}
-use Rattle.files.specs.Table.{sizeMax}
 use Rattle.grow.specs.declared.Growth.the-variants.{Grown, Damaged}
 use Rattle.grow.specs.declared.block.Linked.the-variants.{Done, Spoiled}
 use Rattle.grow.specs.Grow.{grow-out, part, pointersOf, linkOf, spoils}
 use Rattle.grow.specs.Attempt.{putOf, attemptOf}
 use Rattle.grow.proofs.Spoils.{spoils-stored, spoils-empty, spoils-damaged, spoils-refused, spoils-some}
 use Rattle.grow.proofs.Pointers.{pointers-rest}
+use Rattle.layout.specs.Numbers.{sizeMax}
 
 module _ {W : Type 0} (B N k head : ℕ) (img : List ℕ) (w : W) where
   -- size 0 stops there with offset 0

@@ -12,7 +12,7 @@ use Rattle.card.proofs.Cards.{card}
 use Rattle.device.specs.Health.{healthOk}
 use Rattle.device.proofs.Health.{healthy}
 use Rattle.files.specs.declared.Table.{Table}
-use Rattle.files.specs.Table.{sizeMax, tableOk}
+use Rattle.files.specs.Table.{tableOk}
 use Rattle.window.specs.declared.Lookahead.{Lookahead}
 use Rattle.window.specs.Value.{lookaheadFits, validOf}
 use Rattle.window.proofs.Valid.{looks}
@@ -20,6 +20,7 @@ use Rattle.alloc.proofs.Tested.{ready}
 use Rattle.grow.specs.declared.Growth.the-variants.{Refused}
 use Rattle.grow.specs.Grow.{grow-out}
 use Rattle.grow.specs.Extend.{extendTested, extendIn, extendOf, Extending}
+use Rattle.layout.specs.Numbers.{sizeMax}
 
 -- a test that the code turns round: r is what the tested call answered
 pub held : {r x : Bool} → r ≡ x → not r ≡ false → x ≡ true

@@ -4,12 +4,12 @@ use mathlib.Core.Bool.{Bool, true, false, _&&_}
 use mathlib.Core.List.{List}
 use Prim.Native.Nat.{ℕ, suc, _≤_}
 use lib.Dec.{leb}
-use lib.IntN.{ℤ, pos, negsuc}
+use lib.IntN.{ℤ}
 use lib.ListN.{length}
 use Rattle.card.specs.Card.{goodCard}
 use Rattle.device.specs.Health.{healthOk}
 use Rattle.files.specs.declared.Table.{Table}
-use Rattle.files.specs.Table.{sizeMax, tableOk}
+use Rattle.files.specs.Table.{tableOk}
 use Rattle.window.specs.declared.Lookahead.{Lookahead}
 use Rattle.window.specs.declared.Answer.{Answer}
 use Rattle.window.specs.declared.Answer.the-variants as answer
@@ -22,6 +22,7 @@ use Rattle.grow.specs.declared.Growth.the-variants.{Grown, Full, Damaged
 use Rattle.grow.specs.declared.Grew.{Grew}
 use Rattle.grow.specs.Supply.{Took, Block, None, Bad}
 use Rattle.grow.specs.Grow.{GrowOut, grow-out, growOf}
+use Rattle.layout.specs.Numbers.{sizeMax, accepted, damaged-card, invalid, no-space}
 
 -- an allocation as a growth asks for it; behind the tests none is refused
 abbrev pub tookOf : Answer → Lookahead → Took Lookahead
@@ -65,10 +66,10 @@ pub record Extending (B N l : ℕ) (image health : List ℕ) (t : Table) (w : Lo
 
 -- 01's number and values for each case
 abbrev pub growthCode : Growth → ℤ
-growthCode (Grown k o) = pos 0
-growthCode Full = negsuc 27
-growthCode Damaged = negsuc 83
-growthCode Refused = negsuc 21
+growthCode (Grown k o) = accepted
+growthCode Full = no-space
+growthCode Damaged = damaged-card
+growthCode Refused = invalid
 
 abbrev pub growthBlock : Growth → ℕ
 growthBlock (Grown k o) = k

@@ -4,8 +4,8 @@ use device::Erased;
 use device::Programmed;
 ghost use Prim.Native.Nat.{_*_, _≤_};
 ghost use Rattle.device.specs.Bounds.{Blank};
-ghost use Rattle.files.specs.Table.{sizeMax};
 ghost use Rattle.grow.specs.Attempt.{putOf, attemptOf, tryOf, LinkGives, Linking};
+ghost use Rattle.layout.specs.Numbers.{sizeMax};
 
 // What a try with one block gives: the growth's answer, or that the block refused.
 pub enum Linked {

@@ -4,6 +4,7 @@ use mathlib.Core.Path.{_≡_}
 use mathlib.Core.Logic.{_≢_}
 use mathlib.Core.List.{List}
 use Prim.Native.Nat.{ℕ, suc, _-_, _^_, _≤_, _<_}
+use Rattle.layout.specs.Numbers.{nullBlock}
 use Rattle.hops.specs.Walk.{ctz}
 use Rattle.layout.specs.Layout.{indexAt}
 use Rattle.card.specs.Blocks.{pointer}
@@ -36,5 +37,5 @@ pub data FirstFault (ptr : ℕ → ℕ → ℕ) (N head top : ℕ) : Fault → T
 
 -- The first fault of the list of a file: an empty list whose head is not null has a fault of its own.
 pub data ListFault (image : List ℕ) (B N head size : ℕ) : Fault → Type 0 where
-  not-null : size ≡ 0 → head ≢ 4294967295 → ListFault image B N head size (NotNull 0 0)
+  not-null : size ≡ 0 → head ≢ nullBlock → ListFault image B N head size (NotNull 0 0)
   on-list : {f : Fault} → 0 < size → FirstFault (pointer image B) N head (indexAt B (size - 1)) f → ListFault image B N head size f

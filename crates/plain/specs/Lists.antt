@@ -4,6 +4,7 @@ use mathlib.Core.Bool.{true}
 use mathlib.Core.List.{List, [], _∷_}
 use Prim.Native.Nat.{ℕ, zero, suc, _-_, _≤_, _<_}
 use lib.ListN.{length}
+use Rattle.layout.specs.Numbers.{sizeMax}
 use Rattle.layout.specs.Layout.{indexAt}
 use Rattle.card.specs.Blocks.{blockOf, pointer}
 use Rattle.card.specs.Card.{goodCard}
@@ -12,7 +13,7 @@ use Rattle.ctz.specs.Lists.{at}
 -- An image and a size that no list call refuses with -22: a card, and a size up to the largest.
 pub record Good (B N : ℕ) (image : List ℕ) (size : ℕ) : Type 0 where
   pub good : goodCard B N (length image) ≡ true
-  pub fits : size ≤ 2147483647
+  pub fits : size ≤ sizeMax
 
 -- Two images of one length that hold the same in every block of the list of the first.
 pub record SameBlocks (image image′ : List ℕ) (B head size : ℕ) : Type 0 where

@@ -7,7 +7,7 @@ use borrow.Author.Tests.{lt-ltb, le-ltb, ltb-false}
 use lib.Dec.{ltb}
 use Rattle.card.specs.Card.{goodCard}
 use Rattle.card.proofs.Cards.{card}
-use Rattle.files.specs.Table.{filesMax, sizeMax, file}
+use Rattle.files.specs.Table.{file}
 use Rattle.files.specs.Find.{findOf}
 use Rattle.files.specs.declared.Table.{Table}
 use Rattle.files.specs.declared.Found.{Found}
@@ -17,6 +17,7 @@ use Rattle.files.proofs.Cases.{found-at}
 use Rattle.reading.specs.Bounds.{Listed}
 use Rattle.reading.specs.Calls.{askedOf}
 use Rattle.reading.specs.declared.Asked.the-variants as asked
+use Rattle.layout.specs.Numbers.{filesMax, sizeMax}
 
 -- a file that is found stands in one of the slots, and its size is none too large
 pub found-slot : (t : Table) (number i : ℕ) → findOf t number ≡ found.At i → i < filesMax

@@ -11,7 +11,7 @@ use Rattle.layout.specs.Layout.{indexAt, offsetAt}
 use Rattle.card.specs.Blocks.{pointer}
 use Rattle.card.specs.Card.{goodCard}
 use Rattle.ctz.specs.Lists.{at, SoundList}
-use Rattle.files.specs.Table.{file, sizeMax}
+use Rattle.files.specs.Table.{file}
 use Rattle.files.specs.Find.{findOf}
 use Rattle.files.specs.declared.Table.{Table}
 use Rattle.files.specs.declared.Found.the-variants as found
@@ -25,6 +25,7 @@ use Rattle.reading.specs.declared.Reading.the-variants as reading
 use Rattle.reading.specs.declared.Placed.the-variants as placed
 use Rattle.reading.proofs.Asks.{ask-file, found-size}
 use Rattle.reading.proofs.Results.{read-file, place-file}
+use Rattle.layout.specs.Numbers.{sizeMax}
 
 -- as many bytes as are there from position p on
 part-long : (bs : List ℕ) (p m : ℕ) → m ≤ length bs - p → length (take m (drop p bs)) ≡ m

@@ -1,16 +1,17 @@
 -- What the inner functions ask of their callers, as named bounds.
 use Prim.Native.Nat.{ℕ, _+_, _*_, _≤_, _<_}
+use Rattle.layout.specs.Numbers.{sizeMax}
 use Rattle.card.specs.Card.{Card}
 
 -- A list behind the tests: a card, and a size that is none too large.
 pub record Listed (B N size len : ℕ) : Type 0 where
   pub card : Card B N len
-  pub most : size ≤ 2147483647
+  pub most : size ≤ sizeMax
 
 -- n bytes from position p on, all of them below the size.
 pub record Ranged (B N size p n len : ℕ) : Type 0 where
   pub card : Card B N len
-  pub most : size ≤ 2147483647
+  pub most : size ≤ sizeMax
   pub inside : p + n ≤ size
 
 -- At least one of them, with room for all.

@@ -6,7 +6,7 @@ use lib.Dec.{ltb}
 use lib.ListN.{length, take, drop}
 use lib.Seq.{sets}
 use Rattle.card.specs.Card.{goodCard}
-use Rattle.files.specs.Table.{file, sizeMax}
+use Rattle.files.specs.Table.{file}
 use Rattle.files.specs.Find.{findOf}
 use Rattle.files.specs.declared.Table.{Table}
 use Rattle.files.specs.declared.Found.the-variants as found
@@ -18,6 +18,7 @@ use Rattle.reading.specs.declared.Reading.{Reading}
 use Rattle.reading.specs.declared.Reading.the-variants as reading
 use Rattle.reading.specs.declared.Placed.{Placed}
 use Rattle.reading.specs.declared.Placed.the-variants as placed
+use Rattle.layout.specs.Numbers.{sizeMax}
 
 -- Geometry and slice, table, file number, no such file, position: the list of the file, or the refusal.
 unfoldable pub askedOf : ℕ → ℕ → ℕ → Table → ℕ → ℕ → Asked

@@ -1,16 +1,17 @@
 -- 01's number and values for each case of an answer ("Refusal numbers"): -2 is `negsuc 1`, -22 is `negsuc 21`, -84 is `negsuc 83`.
 use Prim.Native.Nat.{ℕ}
-use lib.IntN.{ℤ, pos, negsuc}
+use lib.IntN.{ℤ}
+use Rattle.layout.specs.Numbers.{accepted, damaged-card, invalid, no-file}
 use Rattle.reading.specs.declared.Reading.{Reading}
 use Rattle.reading.specs.declared.Reading.the-variants as reading
 use Rattle.reading.specs.declared.Placed.{Placed}
 use Rattle.reading.specs.declared.Placed.the-variants as placed
 
 abbrev pub codeOf : Reading → ℤ
-codeOf (reading.Bytes length) = pos 0
-codeOf reading.Missing = negsuc 1
-codeOf reading.Damaged = negsuc 83
-codeOf reading.Refused = negsuc 21
+codeOf (reading.Bytes length) = accepted
+codeOf reading.Missing = no-file
+codeOf reading.Damaged = damaged-card
+codeOf reading.Refused = invalid
 
 abbrev pub lengthOf : Reading → ℕ
 lengthOf (reading.Bytes length) = length
@@ -19,10 +20,10 @@ lengthOf reading.Damaged = 0
 lengthOf reading.Refused = 0
 
 abbrev pub placedCode : Placed → ℤ
-placedCode (placed.Part place length) = pos 0
-placedCode placed.Missing = negsuc 1
-placedCode placed.Damaged = negsuc 83
-placedCode placed.Refused = negsuc 21
+placedCode (placed.Part place length) = accepted
+placedCode placed.Missing = no-file
+placedCode placed.Damaged = damaged-card
+placedCode placed.Refused = invalid
 
 -- the empty part is at place 0, a refusal's too
 abbrev pub placeOf : Placed → ℕ

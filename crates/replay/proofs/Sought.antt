@@ -12,10 +12,11 @@ use mir.Facts.{toZ-ofZ}
 use borrow.Author.Tests.{eq-eqb, ne-eqb}
 use Rattle.files.specs.declared.Table.{Table}
 use Rattle.files.specs.declared.position.Sought.{Sought}
-use Rattle.files.specs.Table.{nullBlock, tableOf}
+use Rattle.files.specs.Table.{tableOf}
 use Rattle.files.specs.Seek.{seekOf}
 use Rattle.replay.specs.Records.{wordOf, signedOf}
 use Rattle.replay.specs.Files.{soughtTold, someHead, oneFile, seekEqual}
+use Rattle.layout.specs.Numbers.{nullBlock}
 
 pub head-none : (size : ℕ) → size ≡ 0 → nullBlock ≡ someHead size
 unfolding someHead

@@ -10,10 +10,11 @@ use lib.Seq.{sets}
 use borrow.Author.Tests.{le-leb, lt-leb}
 use Rattle.files.specs.declared.Entry.{Entry}
 use Rattle.files.specs.declared.Table.{Table}
-use Rattle.files.specs.Table.{filesMax, tableOf}
+use Rattle.files.specs.Table.{tableOf}
 use Rattle.files.specs.Change.{appendOf}
 use Rattle.files.proofs.Lists.{append-table}
 use Rattle.replay.specs.Records.{wordOf, entriesOf, tableAt}
+use Rattle.layout.specs.Numbers.{filesMax}
 
 entries-length : (list : List ℕ) (at i k : ℕ) → length (entriesOf list at i k) ≡ k
 unfolding entriesOf

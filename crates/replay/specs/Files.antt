@@ -6,10 +6,11 @@ use lib.Dec.{eqb}
 use Rattle.files.specs.declared.Table.{Table}
 use Rattle.files.specs.declared.position.Sought.{Sought}
 use Rattle.files.specs.declared.position.Sought.the-variants as sought
-use Rattle.files.specs.Table.{nullBlock, tableOf}
+use Rattle.files.specs.Table.{tableOf}
 use Rattle.files.specs.Seek.{seekOf}
 use Rattle.replay.specs.Records.{wordOf, signedOf}
 use Rattle.replay.specs.Agreement.{toldOf}
+use Rattle.layout.specs.Numbers.{nullBlock}
 
 -- the position
 abbrev pub soughtTold : List ℕ → ℕ → Sought → Bool

@@ -9,8 +9,9 @@ use Rattle.layout.specs.declared.Geometry.{Geometry}
 use Rattle.span.specs.Words.{wordAt}
 use Rattle.files.specs.declared.Entry.{Entry}
 use Rattle.files.specs.declared.Table.{Table}
-use Rattle.files.specs.Table.{filesMax, tableOf}
+use Rattle.files.specs.Table.{tableOf}
 use Rattle.window.specs.declared.Lookahead.{Lookahead}
+use Rattle.layout.specs.Numbers.{filesMax}
 
 -- word k of what stands at byte `at`; 0 where its four bytes are not all in the list
 unfoldable pub wordOf : List ℕ → ℕ → ℕ → ℕ

@@ -8,7 +8,7 @@ use lib.ListN.{length}
 use lib.Dec.{leb, eqb}
 use Rattle.files.specs.declared.Entry.{Entry}
 use Rattle.files.specs.declared.Table.{Table}
-use Rattle.files.specs.Table.{filesMax, numberMax, sizeMax, headMax, nullBlock, held, tableOf, filesOk, tableOk}
+use Rattle.files.specs.Table.{held, tableOf, filesOk, tableOk}
 use Rattle.files.specs.Change.{emptyFile}
 use Rattle.files.proofs.Tests.{leb-cases, eqb-cases}
 use Rattle.files.proofs.Laws.{Good, join-ok}
@@ -20,6 +20,7 @@ use Rattle.saved.specs.Save.{headBytes, entryBytes, filesBytes, saveOf}
 use Rattle.saved.specs.Load.{readHead, readSize, readEntry, before, readFiles, refusedLoad, finish, loadOf}
 use Rattle.saved.proofs.Numbers.{Bytes, InRange, up-to-was, reading-cases}
 use Rattle.saved.proofs.Steps.{head-none, head-some}
+use Rattle.layout.specs.Numbers.{filesMax, numberMax, sizeMax, nullBlock, headMax}
 
 clash : {A : Type 0} {X : Type 0} (a : A) (w : List ℕ) → damaged ≡ read a w → X
 clash a w e = let z : _≡_ {A = ℕ} 0 1 = cc in absurd (omega arith)

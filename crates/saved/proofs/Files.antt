@@ -8,7 +8,7 @@ use lib.ListN.{length, drop, set, replicate, length-append, length-drop, drop-of
 use lib.Seq.{drop-cons, getD-drop, set-append-seam, append-snoc}
 use Rattle.files.specs.declared.Entry.{Entry}
 use Rattle.files.specs.declared.Table.{Table}
-use Rattle.files.specs.Table.{filesMax, numberMax, sizeMax, headMax, noEntry, tableOf}
+use Rattle.files.specs.Table.{noEntry, tableOf}
 use Rattle.files.specs.Change.{emptyFile}
 use Rattle.saved.specs.declared.read.NumberRead.{NumberRead}
 use Rattle.saved.specs.declared.read.NumberRead.the-variants as number
@@ -22,6 +22,7 @@ use Rattle.saved.specs.Inner.{numberTold, NumberPost, entryTold, EntryPo
 use Rattle.saved.proofs.Numbers.{Bytes, up-to-le}
 use Rattle.saved.proofs.Steps.{head-no, head-yes, size-no, size-empty, size-some, entry-no, entry-low, entry-yes, files-no, files-yes, load-no, load-yes}
 use Rattle.saved.proofs.Exact.{entry-was}
+use Rattle.layout.specs.Numbers.{filesMax, numberMax, sizeMax, headMax}
 
 -- ---- a number
 

@@ -7,7 +7,7 @@ use native.Mathlib.Omega.{arith}
 use lib.ListN.{length}
 use Rattle.files.specs.declared.Entry.{Entry}
 use Rattle.files.specs.declared.Table.{Table}
-use Rattle.files.specs.Table.{filesMax, numberMax, sizeMax, headMax, nullBlock, held, tableOf, filesOk, tableOk}
+use Rattle.files.specs.Table.{held, tableOf, filesOk, tableOk}
 use Rattle.files.specs.Change.{emptyFile}
 use Rattle.files.proofs.Tests.{eqb-cases}
 use Rattle.files.proofs.Laws.{Good, first-good, rest-ok, held-ok, count-ok, held-length}
@@ -17,6 +17,7 @@ use Rattle.saved.specs.Save.{headBytes, entryBytes, filesBytes, saveOf}
 use Rattle.saved.specs.Load.{readSize, readEntry, before, readFiles, finish, loadOf}
 use Rattle.saved.proofs.Steps.{head-none, head-some, head-yes, size-empty, size-some, entry-yes, files-yes, load-yes}
 use Rattle.saved.proofs.Numbers.{up-to}
+use Rattle.layout.specs.Numbers.{filesMax, numberMax, sizeMax, nullBlock, headMax}
 
 -- a file without bytes is the empty file
 empty-is : (e : Entry) → e .size ≡ 0 → e .head ≡ nullBlock → emptyFile (e .number) ≡ e

@@ -6,12 +6,12 @@ use native.Mathlib.Omega.{arith}
 use lib.ListN.{length, length-append}
 use borrow.Author.Tests.{le-leb, lt-leb, eq-eqb, ne-eqb}
 use Rattle.files.specs.declared.Entry.{Entry}
-use Rattle.files.specs.Table.{filesMax, numberMax, sizeMax, headMax}
 use Rattle.files.specs.Change.{emptyFile}
 use Rattle.saved.specs.Inner.{Counted}
 use Rattle.saved.specs.Groups.{groups, damaged, read, readUpTo}
 use Rattle.saved.specs.Save.{headBytes, entryBytes}
 use Rattle.saved.specs.Load.{readHead, readSize, readEntry, before, readFiles, refusedLoad, finish, loadOf}
+use Rattle.layout.specs.Numbers.{filesMax, numberMax, sizeMax, headMax}
 
 pub head-none : (size head : ℕ) → size ≡ 0 → headBytes size head ≡ []
 unfolding headBytes

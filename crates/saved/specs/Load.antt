@@ -3,14 +3,15 @@ use mathlib.Core.Bool.{true, false}
 use mathlib.Core.List.{List, [], _∷_}
 use Prim.Native.Nat.{ℕ, zero, suc}
 use lib.Dec.{leb, eqb}
-use lib.IntN.{ℤ, pos, negsuc}
+use lib.IntN.{ℤ}
 use Rattle.files.specs.declared.Entry.{Entry}
-use Rattle.files.specs.Table.{filesMax, numberMax, sizeMax, headMax, tableOf}
+use Rattle.files.specs.Table.{tableOf}
 use Rattle.files.specs.Change.{emptyFile}
 use Rattle.saved.specs.declared.Loading.{Loading}
 use Rattle.saved.specs.declared.Loading.the-variants as loading
 use Rattle.saved.specs.declared.Loaded.{Loaded}
 use Rattle.saved.specs.Groups.{Reading, damaged, read, readUpTo}
+use Rattle.layout.specs.Numbers.{filesMax, numberMax, sizeMax, headMax, accepted, damaged-card}
 
 -- the head, at most 65,535
 unfoldable pub readHead : ℕ → ℕ → List ℕ → Reading Entry
@@ -64,5 +65,5 @@ loadOf bytes =
 
 -- -84 saved table not in exact form
 abbrev pub loadingCode : Loading → ℤ
-loadingCode loading.Done = pos 0
-loadingCode loading.Damaged = negsuc 83
+loadingCode loading.Done = accepted
+loadingCode loading.Damaged = damaged-card

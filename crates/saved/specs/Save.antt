@@ -5,7 +5,8 @@ use Prim.Native.Nat.{ℕ}
 use lib.ListN.{length}
 use lib.Seq.{sets}
 use lib.Dec.{leb, eqb}
-use lib.IntN.{ℤ, pos, negsuc}
+use lib.IntN.{ℤ}
+use Rattle.layout.specs.Numbers.{accepted, invalid}
 use Rattle.files.specs.declared.Entry.{Entry}
 use Rattle.files.specs.declared.Table.{Table}
 use Rattle.files.specs.Table.{held, tableOk}
@@ -44,8 +45,8 @@ bufferOf t buffer = elim (savable t (length buffer)) [ true ↦ sets buffer 0 (s
 
 -- -22 table value, save buffer too short
 abbrev pub savedCode : Saved → ℤ
-savedCode (saved.Bytes n) = pos 0
-savedCode saved.Refused = negsuc 21
+savedCode (saved.Bytes n) = accepted
+savedCode saved.Refused = invalid
 
 -- a refusal hands out 0
 abbrev pub savedValue : Saved → ℕ

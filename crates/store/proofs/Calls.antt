@@ -6,7 +6,7 @@ use Prim.Native.Nat.{ℕ, _+_, _-_, _≤_, _<_}
 use lib.ListN.{length}
 use Rattle.files.specs.declared.Table.{Table}
 use Rattle.files.specs.declared.Found.the-variants as place
-use Rattle.files.specs.Table.{sizeMax, file}
+use Rattle.files.specs.Table.{file}
 use Rattle.files.specs.Find.{findOf}
 use Rattle.window.specs.declared.Lookahead.{Lookahead}
 use Rattle.store.specs.declared.Outcome.the-variants as outcome
@@ -14,6 +14,7 @@ use Rattle.store.specs.Write.{zeros}
 use Rattle.store.specs.Store.{left, writtenOf, puts, writeFile, storeWrite, shrinks, truncateFile, storeTruncate}
 use Rattle.store.specs.Calls.{testedOf}
 use Rattle.store.proofs.Files as files
+use Rattle.layout.specs.Numbers.{sizeMax}
 
 -- ---- write
 

@@ -10,7 +10,7 @@ use Rattle.ctz.specs.declared.Found.{Found}
 use Rattle.ctz.specs.declared.Found.the-variants as found
 use Rattle.ctz.specs.Lookup.{walkTo}
 use Rattle.files.specs.declared.Table.{Table}
-use Rattle.files.specs.Table.{sizeMax, nullBlock, file}
+use Rattle.files.specs.Table.{file}
 use Rattle.files.specs.Change.{putOf}
 use Rattle.window.specs.declared.Lookahead.{Lookahead}
 use Rattle.store.specs.declared.Outcome.{Outcome}
@@ -24,6 +24,7 @@ use Rattle.store.specs.Store.{StoreOut, stays, left, written, writtenOf,
 use Rattle.store.specs.Put.{wroteOf, WroteGives, finishOf}
 use Rattle.store.specs.Calls.{StoreGives}
 use Rattle.store.proofs.Puts.{puts-as-gap}
+use Rattle.layout.specs.Numbers.{sizeMax, nullBlock}
 
 pub gives : {o : StoreOut} {a : Outcome} {w : Lookahead} {t : Table} {image : List ℕ} {r : Stored} → o ≡ left a w t image → r ≡ stays a w t
     → StoreGives o r image

@@ -16,7 +16,6 @@ use Rattle.device.specs.Device.{stored, refusesProgram, ProgramOut, programOf, 
 use Rattle.device.proofs.Blanks.{blank-part}
 use Rattle.device.proofs.Steps.{program-stored, told-stored, told-refused}
 use Rattle.files.specs.declared.Entry.{Entry}
-use Rattle.files.specs.Table.{sizeMax}
 use Rattle.grow.specs.Attempt.{Linking}
 use Rattle.grow.proofs.Rooms.{room-of}
 use Rattle.store.specs.declared.block.Filled.{Filled}
@@ -25,6 +24,7 @@ use Rattle.store.specs.Write.{Job, over, new, Look, fronted}
 use Rattle.store.specs.Store.{lookIn, jobOf}
 use Rattle.store.specs.Fill.{frontOf, FillOut, share, tailOf, fillOf, FillGives, Tailing, Filling}
 use Rattle.store.proofs.Blanks.{front-blank}
+use Rattle.layout.specs.Numbers.{sizeMax}
 
 -- ---- a run of the data, cut to what there is
 

@@ -6,7 +6,6 @@ use native.Mathlib.Omega.{arith}
 use lib.ListN.{length}
 use Rattle.files.specs.declared.Entry.{Entry}
 use Rattle.files.specs.declared.Table.{Table}
-use Rattle.files.specs.Table.{sizeMax}
 use Rattle.window.specs.declared.Lookahead.{Lookahead}
 use Rattle.window.specs.Value.{Valid}
 use Rattle.grow.specs.declared.Growth.the-variants as growth
@@ -22,6 +21,7 @@ use Rattle.store.specs.Store.{lookIn, jobOf}
 use Rattle.store.specs.Fill.{fillOf, FillGives, Filling}
 use Rattle.store.specs.Put.{onBy, onFrom, wroteOf, WroteGives, Putting}
 use Rattle.store.proofs.Turns as turns
+use Rattle.layout.specs.Numbers.{sizeMax}
 
 -- window w, the list (h, s) and image img, in the middle of a write from window w₀, the list (h₀, s₀) and image img₀
 pub record Rest (B N l : ℕ) (health : List ℕ) (t : Table) (e : Entry) (pos : ℕ) (src : List ℕ) (w₀ : Lookahead) (h₀ s₀ : ℕ) (img₀ : List ℕ)

@@ -12,7 +12,7 @@ use Rattle.ctz.specs.Lookup.{walkTo}
 use Rattle.files.specs.declared.Table.{Table}
 use Rattle.files.specs.declared.Found as files
 use Rattle.files.specs.declared.Found.the-variants as place
-use Rattle.files.specs.Table.{sizeMax, nullBlock, file}
+use Rattle.files.specs.Table.{file}
 use Rattle.files.specs.Find.{findOf}
 use Rattle.files.specs.Change.{putOf}
 use Rattle.window.specs.declared.Lookahead.{Lookahead}
@@ -22,6 +22,7 @@ use Rattle.store.specs.Write.{Writing, Written, NoRoom, Corrupt, WriteOu
 use Rattle.store.specs.Store.{StoreOut, left, written, writtenOf, puts, storeWrite, shrunk, shrinks, storeTruncate}
 use Rattle.store.specs.Calls.{testedOf}
 use Rattle.store.proofs.Calls as calls
+use Rattle.layout.specs.Numbers.{sizeMax, nullBlock}
 
 -- the ways of a call: all as it came, or, behind the tests, done with another size and head of one file, -28 or -84
 pub data Ends (w : Lookahead) (t : Table) (image : List ℕ) : StoreOut → Type 0 where

@@ -13,11 +13,12 @@ use Rattle.ctz.specs.Lookup.{walk, walkTo}
 use Rattle.device.specs.Health.{eachValid, healthOk}
 use Rattle.files.specs.declared.Table.{Table}
 use Rattle.files.specs.Find.{searchOf, findOf}
-use Rattle.files.specs.Table.{headOk, entryOk, filesOk, tableOf, tableOk, nullBlock}
+use Rattle.files.specs.Table.{headOk, entryOk, filesOk, tableOf, tableOk}
 use Rattle.window.specs.declared.Lookahead.{Lookahead}
 use Rattle.window.specs.Value.{lookaheadFits, validOf}
 use Rattle.store.specs.declared.Outcome.the-variants as outcome
 use Rattle.store.specs.Store.{StoreOut, left, shrinks, storeTruncate, truncateFile}
+use Rattle.layout.specs.Numbers.{nullBlock}
 
 -- The file is 260 bytes in blocks 2, 0 and 1: 128 of 7; 124 of 8 behind a pointer; 8 of 9 behind two. The first of those should name block 0 and names p.
 abbrev card : ℕ → List ℕ

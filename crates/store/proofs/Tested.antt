@@ -11,7 +11,7 @@ use Rattle.device.specs.Health.{healthOk}
 use Rattle.device.proofs.Health.{healthy}
 use Rattle.files.specs.declared.Table.{Table}
 use Rattle.files.specs.declared.Found.the-variants as place
-use Rattle.files.specs.Table.{filesMax, sizeMax, file}
+use Rattle.files.specs.Table.{file}
 use Rattle.files.specs.Find.{findOf}
 use Rattle.files.proofs.Laws.{table-valid, count-ok}
 use Rattle.files.proofs.Cases.{found-at}
@@ -20,6 +20,7 @@ use Rattle.window.specs.Value.{lookaheadFits, validOf}
 use Rattle.alloc.proofs.Tested.{ready}
 use Rattle.store.specs.Put.{Putting}
 use Rattle.store.specs.Calls.{testedOf, Shrinking, Asked}
+use Rattle.layout.specs.Numbers.{filesMax, sizeMax}
 
 module _ (B N l len : ℕ) (health : List ℕ) (w : Lookahead) where
   pub no-card : goodCard B N len ≡ false → false ≡ testedOf B N l len health w

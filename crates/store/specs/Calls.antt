@@ -7,12 +7,13 @@ use lib.ListN.{length}
 use Rattle.card.specs.Card.{goodCard, Card}
 use Rattle.device.specs.Health.{healthOk}
 use Rattle.files.specs.declared.Table.{Table}
-use Rattle.files.specs.Table.{filesMax, sizeMax, file}
+use Rattle.files.specs.Table.{file}
 use Rattle.window.specs.declared.Lookahead.{Lookahead}
 use Rattle.window.specs.Value.{lookaheadFits, validOf}
 use Rattle.alloc.specs.Allocate.{Ready}
 use Rattle.store.specs.declared.Stored.{Stored}
 use Rattle.store.specs.Store.{StoreOut}
+use Rattle.layout.specs.Numbers.{filesMax, sizeMax}
 
 -- the tests before the table, for an image of `len` bytes
 unfoldable pub testedOf : ℕ → ℕ → ℕ → ℕ → List ℕ → Lookahead → Bool

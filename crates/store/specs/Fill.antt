@@ -10,11 +10,11 @@ use Rattle.device.specs.declared.Programmed.the-variants.{Stored, Refused}
 use Rattle.device.specs.Bounds.{Blank}
 use Rattle.device.specs.Device.{refusesProgram, ProgramOut}
 use Rattle.files.specs.declared.Entry.{Entry}
-use Rattle.files.specs.Table.{sizeMax}
 use Rattle.store.specs.declared.block.Filled.{Filled}
 use Rattle.store.specs.declared.block.Filled.the-variants.{Done, Spoiled, Damaged}
 use Rattle.store.specs.Write.{Job, over, new, Look, fronted, tailed}
 use Rattle.store.specs.Store.{jobOf}
+use Rattle.layout.specs.Numbers.{sizeMax}
 
 -- gap and data go into block k, or it refuses
 unfoldable pub frontOf : List ℕ → ℕ → ℕ → ℕ → ℕ → ℕ → ℕ → List ℕ → List ℕ → ProgramOut

@@ -7,10 +7,10 @@ use lib.Dec.{ltb}
 use Rattle.layout.specs.Layout.{indexAt, start}
 use Rattle.card.specs.Card.{Card}
 use Rattle.files.specs.declared.Entry.{Entry}
-use Rattle.files.specs.Table.{sizeMax}
 use Rattle.store.specs.declared.old.Looked.{Looked}
 use Rattle.store.specs.declared.old.Looked.the-variants as looked-as
 use Rattle.store.specs.Write.{Look, when, starts, looked, firstHead}
+use Rattle.layout.specs.Numbers.{sizeMax}
 
 abbrev pub lookedOf : Look → Looked
 lookedOf (Look.Found k) = looked-as.Block k

@@ -5,7 +5,6 @@ use Prim.Native.Nat.{ℕ, suc, _+_, _≤_}
 use lib.ListN.{length}
 use Rattle.files.specs.declared.Entry.{Entry}
 use Rattle.files.specs.declared.Table.{Table}
-use Rattle.files.specs.Table.{sizeMax}
 use Rattle.files.specs.Change.{putOf}
 use Rattle.window.specs.declared.Lookahead.{Lookahead}
 use Rattle.alloc.specs.Allocate.{Ready}
@@ -17,6 +16,7 @@ use Rattle.store.specs.declared.Outcome.the-variants as outcome
 use Rattle.store.specs.declared.Stored.{Stored}
 use Rattle.store.specs.Write.{Writing, Written, NoRoom, Corrupt, WriteOut, writeOf}
 use Rattle.store.specs.Store.{lookIn, jobOf, stays}
+use Rattle.layout.specs.Numbers.{sizeMax}
 
 -- the growths from window w and the list (h, s) on, m of them at most
 unfoldable pub onBy : ℕ → ℕ → ℕ → ℕ → List ℕ → Table → Entry → ℕ → List ℕ → Lookahead → ℕ → ℕ → List ℕ → WriteOut Lookahead

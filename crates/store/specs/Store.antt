@@ -13,7 +13,7 @@ use Rattle.ctz.specs.Lookup.{walkTo}
 use Rattle.files.specs.declared.Entry.{Entry}
 use Rattle.files.specs.declared.Table.{Table}
 use Rattle.files.specs.declared.Found.the-variants as place
-use Rattle.files.specs.Table.{sizeMax, nullBlock, file}
+use Rattle.files.specs.Table.{file}
 use Rattle.files.specs.Find.{findOf}
 use Rattle.files.specs.Change as change
 use Rattle.window.specs.declared.Lookahead.{Lookahead}
@@ -23,6 +23,7 @@ use Rattle.store.specs.declared.Outcome.{Outcome}
 use Rattle.store.specs.declared.Outcome.the-variants as outcome
 use Rattle.store.specs.declared.Stored.{Stored}
 use Rattle.store.specs.Write.{zeros, Writing, Written, NoRoom, Corrupt, WriteOut, Job, Look, putOf}
+use Rattle.layout.specs.Numbers.{sizeMax, nullBlock, accepted, damaged-card, invalid, no-file, no-space, too-large}
 
 -- a lookup in a file's list
 abbrev pub lookOf : Found → Look
@@ -134,9 +135,9 @@ storeTruncate B N l image health w t number size =
 
 -- 01's number for each case
 abbrev pub outcomeCode : Outcome → int.ℤ
-outcomeCode outcome.Done = int.pos 0
-outcomeCode outcome.Missing = int.negsuc 1
-outcomeCode outcome.TooLarge = int.negsuc 26
-outcomeCode outcome.Full = int.negsuc 27
-outcomeCode outcome.Damaged = int.negsuc 83
-outcomeCode outcome.Refused = int.negsuc 21
+outcomeCode outcome.Done = accepted
+outcomeCode outcome.Missing = no-file
+outcomeCode outcome.TooLarge = too-large
+outcomeCode outcome.Full = no-space
+outcomeCode outcome.Damaged = damaged-card
+outcomeCode outcome.Refused = invalid

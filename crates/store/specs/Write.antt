@@ -4,6 +4,7 @@ use mathlib.Core.List.{List, [], _∷_, _++_}
 use Prim.Native.Nat.{ℕ, zero, suc, _+_, _-_, min, max}
 use lib.Dec.{ltb}
 use lib.ListN.{length, replicate, take, drop}
+use Rattle.layout.specs.Numbers.{nullBlock}
 use Rattle.layout.specs.Layout.{indexAt, start}
 use Rattle.device.specs.Device.{stored, refusesProgram}
 use Rattle.grow.specs.declared.Growth.the-variants as growth
@@ -122,11 +123,11 @@ looked look img (p ∷ ps) = elim (look img p) [ Found k ↦ looked look img ps 
 
 abbrev pub foundOr : Look → ℕ
 foundOr (Found k) = k
-foundOr Lost = 4294967295
+foundOr Lost = nullBlock
 
 -- the first growth is from the block of byte q - 1, or from size 0
 unfoldable pub firstHead : (List ℕ → ℕ → Look) → List ℕ → ℕ → ℕ
-firstHead look img zero = 4294967295
+firstHead look img zero = nullBlock
 firstHead look img (suc p) = foundOr (look img p)
 
 -- the whole write, behind its checkpoint

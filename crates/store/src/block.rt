@@ -9,9 +9,9 @@ ghost use Prim.Native.Nat.{_≤_};
 ghost use lib.ListN.{length};
 ghost use Rattle.device.specs.Device.{ProgramGives};
 ghost use Rattle.device.specs.Bounds.{Room, Blank};
-ghost use Rattle.files.specs.Table.{sizeMax};
 ghost use Rattle.store.specs.Store.{lookIn, jobOf};
 ghost use Rattle.store.specs.Fill.{frontOf, tailOf, fillOf, FillGives, Tailing, Filling};
+ghost use Rattle.layout.specs.Numbers.{sizeMax};
 
 // What filling a new block gives: the size so far, that the block refused, or -84.
 pub enum Filled {

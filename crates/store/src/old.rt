@@ -6,10 +6,10 @@ ghost use Prim.Native.Nat.{_-_, _≤_, _<_};
 ghost use lib.ListN.{length};
 ghost use Rattle.layout.specs.Layout.{indexAt, start};
 ghost use Rattle.layout.specs.Place.{Served};
-ghost use Rattle.files.specs.Table.{sizeMax};
 ghost use Rattle.store.specs.Write.{looked};
 ghost use Rattle.store.specs.Store.{lookIn};
 ghost use Rattle.store.specs.Lookups.{lookedOf, keptOf, tailWanted, Looking, Behind};
+ghost use Rattle.layout.specs.Numbers.{sizeMax};
 
 // What a lookup in a file's list finds; lost: -84.
 pub enum Looked {

@@ -9,10 +9,10 @@ use window::Lookahead;
 ghost use mathlib.Core.Path.{_≡_};
 ghost use Prim.Native.Nat.{_<_};
 ghost use lib.ListN.{length};
-ghost use Rattle.files.specs.Table.{filesMax};
 ghost use Rattle.store.specs.Store.{stays, shrinks};
 ghost use Rattle.store.specs.Put.{finishOf};
 ghost use Rattle.store.specs.Calls.{testedOf, Shrinking};
+ghost use Rattle.layout.specs.Numbers.{filesMax};
 
 // Whether geometry, slices, health bytes, L and window are not refused.
 pub fn valid_store(g: Geometry, l: u32, len: usize, health: &[u8], w: Lookahead) -> bool

@@ -2,7 +2,8 @@
 use mathlib.Core.Bool.{Bool, true, false}
 use Prim.Native.Nat.{ℕ, zero, suc, _+_}
 use lib.Dec.{eqb}
-use lib.IntN.{ℤ, pos, negsuc}
+use lib.IntN.{ℤ}
+use Rattle.layout.specs.Numbers.{accepted, damaged-card, invalid, no-space}
 use Rattle.window.specs.declared.Lookahead.{Lookahead}
 use Rattle.window.specs.declared.Got.{Got}
 use Rattle.window.specs.declared.Got.the-variants as got
@@ -43,10 +44,10 @@ allocOf n l seen w = allocBy (w .ckpoint + 2) n l seen w
 
 -- 01's number and value for each case
 abbrev pub answerCode : Answer → ℤ
-answerCode (Block b) = pos 0
-answerCode NoSpace = negsuc 27
-answerCode Damaged = negsuc 83
-answerCode Refused = negsuc 21
+answerCode (Block b) = accepted
+answerCode NoSpace = no-space
+answerCode Damaged = damaged-card
+answerCode Refused = invalid
 
 abbrev pub answerBlock : Answer → ℕ
 answerBlock (Block b) = b

@@ -2,7 +2,8 @@
 use mathlib.Core.Bool.{Bool, true, false, _&&_}
 use Prim.Native.Nat.{ℕ}
 use lib.Dec.{ltb}
-use lib.IntN.{ℤ, pos, negsuc}
+use lib.IntN.{ℤ}
+use Rattle.layout.specs.Numbers.{accepted, invalid}
 use Rattle.window.specs.declared.Lookahead.{Lookahead}
 use Rattle.window.specs.declared.setup.Reply.{Reply}
 use Rattle.window.specs.declared.setup.Reply.the-variants.{Done, Refused}
@@ -25,5 +26,5 @@ droppedReply B N l w = replied (sizesFit B N l && validOf w N l) (droppedOf w N)
 
 -- 01's number for each case
 abbrev pub replyCode : Reply → ℤ
-replyCode Done = pos 0
-replyCode Refused = negsuc 21
+replyCode Done = accepted
+replyCode Refused = invalid

@@ -1,10 +1,10 @@
 -- A scan (01, "The window"), told what the visits of all files hand over: the window never sees an image.
 use mathlib.Core.Path.{_≡_}
-use mathlib.Core.Bool.{Bool, true, false, _&&_, _||_}
+use mathlib.Core.Bool.{Bool, true, false, _&&_}
 use mathlib.Core.List.{List, [], _∷_, _++_}
 use Prim.Native.Nat.{ℕ, _+_, _*_, _%_, _<_, min}
-use lib.Dec.{eqb}
 use lib.ListN.{replicate}
+use Rattle.span.specs.Members.{has}
 use Rattle.window.specs.declared.Lookahead.{Lookahead}
 use Rattle.window.specs.declared.Scanned.{Scanned}
 use Rattle.window.specs.Marks.{markAll}
@@ -35,11 +35,6 @@ seenAll (v ∷ vs) = thenSeen v (seenAll vs)
 unfoldable pub listedOf : List Seen → List ℕ
 listedOf [] = []
 listedOf (v ∷ vs) = v .blocks ++ listedOf vs
-
--- whether a number is in a list
-unfoldable pub has : List ℕ → ℕ → Bool
-has [] b = false
-has (x ∷ xs) b = eqb x b || has xs b
 
 -- every number of a list is a block's: each visit tests a number against N just before it hands it over
 abbrev pub Below : ℕ → List ℕ → Type 0

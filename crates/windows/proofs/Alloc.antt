@@ -12,7 +12,7 @@ use Rattle.window.specs.declared.Got.{Got}
 use Rattle.window.specs.declared.Lookahead.{Lookahead}
 use Rattle.window.specs.Allocate.{allocBy, allocOf, onGot, onScan, usedUp}
 use Rattle.window.specs.Marks.{marked}
-use Rattle.window.specs.Scan.{Below, Seen, cleared, has, markOn, scanCase, scanOf}
+use Rattle.window.specs.Scan.{Below, Seen, cleared, markOn, scanCase, scanOf}
 use Rattle.window.specs.Search.{freeFrom, moved, takeCase, takeOf}
 use Rattle.window.specs.Value.{Sizes, Valid}
 use Rattle.window.proofs.Cases.{eqb-cases, ltb-cases, no-both}
@@ -22,6 +22,7 @@ use Rattle.window.proofs.Turns.{left, less}
 use Rattle.windows.specs.Call.{Claim, Handed, On, Passed, Result, Says, View, bad, full, handed, isBlock}
 use Rattle.windows.proofs.Circle.{shift}
 use Rattle.windows.proofs.Scan.{scan-exact}
+use Rattle.span.specs.Members.{has}
 
 -- the place of an offset
 pub on-place : (base n : ℕ) (w : Lookahead) → On base n w → (o : ℕ) → w .next ≤ o → (w .start + o) % n ≡ (base + (n - w .ckpoint + (o - w .next))) % n

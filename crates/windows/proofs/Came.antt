@@ -5,12 +5,13 @@ use mathlib.Core.List.{List, []}
 use Prim.Native.Nat.{ℕ, _≤_}
 use native.Mathlib.Omega.{arith}
 use Rattle.window.specs.declared.Lookahead.{Lookahead}
-use Rattle.window.specs.Scan.{Seen, has, scanOf}
+use Rattle.window.specs.Scan.{Seen, scanOf}
 use Rattle.window.specs.Value.{Sizes, Valid, checkpointOf, freshOf}
 use Rattle.window.proofs.Kept.{fresh-valid}
 use Rattle.windows.specs.Call.{Became, Came, Clean, During, Run, Tells, fewer, fresh, stopped, wrote}
 use Rattle.windows.proofs.InCall.{clean-after, running, still-clean, still-valid}
 use Rattle.windows.proofs.Scan.{scan-exact}
+use Rattle.span.specs.Members.{has}
 
 -- a fresh window is clean for any list, and so is each that has nothing left
 pub empty-clean : (n : ℕ) (listed : List ℕ) (w : Lookahead) → w .size ≤ w .next → Clean n listed w

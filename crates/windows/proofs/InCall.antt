@@ -9,7 +9,7 @@ use Rattle.window.specs.declared.Answer.the-variants as answer
 use Rattle.window.specs.declared.Answer.{Answer}
 use Rattle.window.specs.declared.Lookahead.{Lookahead}
 use Rattle.window.specs.Allocate.{allocOf}
-use Rattle.window.specs.Scan.{Below, Seen, has}
+use Rattle.window.specs.Scan.{Below, Seen}
 use Rattle.window.specs.Value.{Sizes, Valid, checkpointOf}
 use Rattle.window.proofs.Cases.{no-both}
 use Rattle.windows.specs.Call.{Became, Clean, Different, During, New, Places, Result, Run, Tells, View, bad, cleanly, full, handed, isBlock, more, start}
@@ -17,6 +17,7 @@ use Rattle.windows.proofs.Alloc.{alloc-view, on-place}
 use Rattle.windows.proofs.Answers.{block-eq, not-block, not-damaged}
 use Rattle.windows.proofs.Circle.{same-place}
 use Rattle.windows.proofs.Has.{else-false, has-cases, has-head, has-none}
+use Rattle.span.specs.Members.{has}
 
 -- where a block that was handed out lies
 pub place-of : {base n d : ℕ} {out : List ℕ} → Places base n d out → (b : ℕ) → has out b ≡ true → (k : ℕ) × (k < d) × (b ≡ (base + k) % n)

@@ -5,12 +5,12 @@ use Prim.Native.Nat.{ℕ, zero, suc, _+_, _-_, _%_, _≤_, _<_}
 use native.Mathlib.Nat.{mod-lt}
 use native.Mathlib.Omega.{arith}
 use Rattle.window.specs.Marks.{offsetOf}
-use Rattle.window.specs.Scan.{has}
 use Rattle.window.proofs.Cases.{eqb-cases}
 use Rattle.windows.specs.Call.{Different}
 use Rattle.windows.specs.Space.{unless, unusedFrom}
 use Rattle.windows.proofs.Circle.{block-offset, same-place}
 use Rattle.windows.proofs.Has.{else-false, has-cases, has-head, has-none, has-tail}
+use Rattle.span.specs.Members.{has}
 
 -- where a block of the rest lies
 pub rest-place : (base n : ℕ) (used : ℕ → Bool) (c b : ℕ) → c ≤ n → has (unusedFrom base n used c) b ≡ true

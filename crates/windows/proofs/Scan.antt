@@ -9,13 +9,14 @@ use lib.ListN.{length, length-set, replicate, getD-replicate}
 use lib.Dec.{ltb, eqb}
 use Rattle.window.specs.declared.Lookahead.{Lookahead}
 use Rattle.window.specs.Marks.{markAll, markIf, markMap, marked, offsetOf}
-use Rattle.window.specs.Scan.{Below, cleared, has, markOn}
+use Rattle.window.specs.Scan.{Below, cleared, markOn}
 use Rattle.window.specs.Value.{Sizes, Valid}
 use Rattle.window.proofs.Cases.{eqb-cases, ltb-cases}
 use Rattle.window.proofs.Kept.{cleared-valid}
 use Rattle.windows.proofs.Circle.{block-offset, offset-block}
 use Rattle.windows.proofs.Has.{below-head, below-tail}
 use Rattle.windows.proofs.Marks.{mark-other, mark-same}
+use Rattle.span.specs.Members.{has}
 
 -- a map of 64 bytes keeps its length
 map-length : (s z n : ℕ) (m : List ℕ) (b : ℕ) → length (markMap s z n m b) ≡ length m

@@ -8,11 +8,12 @@ use Rattle.window.specs.declared.Answer.{Answer}
 use Rattle.window.specs.declared.Answer.the-variants as answer
 use Rattle.window.specs.declared.Lookahead.{Lookahead}
 use Rattle.window.specs.Allocate.{allocOf}
-use Rattle.window.specs.Scan.{Seen, has}
+use Rattle.window.specs.Scan.{Seen}
 use Rattle.window.specs.Value.{Sizes, Valid}
 use Rattle.windows.specs.Call.{cleanly, Clean, View, handed, full, bad, Tells}
 use Rattle.windows.proofs.Alloc.{some-on, alloc-view}
 use Rattle.windows.proofs.Answers.{block-eq, not-block, not-damaged}
+use Rattle.span.specs.Members.{has}
 
 module _ {n l : ℕ} {listed : List ℕ} {seen : Seen} {w : Lookahead} (z : Sizes n l) (g : Valid w n l) (c : Clean n listed w) (t : Tells n listed seen) where
   -- THEOREM. The block handed out is one of the card, and no file has it.

@@ -12,7 +12,7 @@ use Rattle.window.specs.declared.Answer.{Answer}
 use Rattle.window.specs.declared.Lookahead.{Lookahead}
 use Rattle.window.specs.Allocate.{allocOf}
 use Rattle.window.specs.Marks.{marked, offsetOf}
-use Rattle.window.specs.Scan.{Seen, has}
+use Rattle.window.specs.Scan.{Seen}
 use Rattle.window.specs.Value.{Sizes, Valid, checkpointOf, freshOf}
 use Rattle.window.proofs.Cases.{ltb-cases, no-both}
 use Rattle.window.proofs.Kept.{checkpoint-valid, fresh-valid}
@@ -23,6 +23,7 @@ use Rattle.windows.proofs.Circle.{block-offset, offset-block}
 use Rattle.windows.proofs.Exact.{view, asked, full-none, good-cons, good-nil, handed-first, spent}
 use Rattle.windows.proofs.Has.{or-right}
 use Rattle.windows.proofs.Rotate.{tally-same, whole-circle}
+use Rattle.span.specs.Members.{has}
 
 -- ---- what is used, from a window
 

@@ -10,10 +10,11 @@ use Rattle.window.specs.declared.Answer.the-variants as answer
 use Rattle.window.specs.declared.Lookahead.{Lookahead}
 use Rattle.window.specs.Allocate.{allocBy, allocOf}
 use Rattle.window.specs.Marks.{markAll, markMap}
-use Rattle.window.specs.Scan.{Seen, cleared, has, scanOf}
+use Rattle.window.specs.Scan.{Seen, cleared, scanOf}
 use Rattle.window.specs.Search.{freeFrom, skip, takeOf}
 use Rattle.window.specs.Value.{freshOf}
 use Rattle.windows.specs.Space.{askOf, goodUnlisted, tally, unusedFrom}
+use Rattle.span.specs.Members.{has}
 
 abbrev some : Seen
 some = record { blocks = 0 ∷ 1 ∷ 4 ∷ []; ok = true }

@@ -9,8 +9,9 @@ use Rattle.window.specs.declared.Answer.{Answer}
 use Rattle.window.specs.declared.Lookahead.{Lookahead}
 use Rattle.window.specs.Allocate.{allocOf}
 use Rattle.window.specs.Marks.{marked}
-use Rattle.window.specs.Scan.{Below, Seen, has}
+use Rattle.window.specs.Scan.{Below, Seen}
 use Rattle.window.specs.Value.{Valid, checkpointOf, freshOf}
+use Rattle.span.specs.Members.{has}
 
 -- what is said of a block and its mark
 abbrev pub Claim : Type 1

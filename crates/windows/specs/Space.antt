@@ -9,9 +9,10 @@ use Rattle.window.specs.declared.Answer.{Answer}
 use Rattle.window.specs.declared.Lookahead.{Lookahead}
 use Rattle.window.specs.Allocate.{allocOf}
 use Rattle.window.specs.Marks.{marked, offsetOf}
-use Rattle.window.specs.Scan.{Seen, has}
+use Rattle.window.specs.Scan.{Seen}
 use Rattle.window.specs.Value.{Valid}
 use Rattle.windows.specs.Call.{Lists, On, Says, exactly}
+use Rattle.span.specs.Members.{has}
 
 abbrev pub unless : Bool → ℕ → List ℕ → List ℕ
 unless true b bs = bs
