@@ -1,4 +1,5 @@
 -- The definitions that the contracts of `store` cite.
+pub mod Asked
 pub mod Write
 pub mod Store
 pub mod Lookups
