@@ -13,16 +13,18 @@ use Rattle.files.specs.Table.{noEntry}
 use Rattle.files.proofs.Laws.{slice-end}
 use Rattle.window.specs.declared.Lookahead.{Lookahead}
 use Rattle.window.specs.declared.Scanned.{Scanned}
-use Rattle.window.specs.Marks.{markAll}
+use Rattle.window.specs.Scan.{markAll, Seen, seenAll, cleared, scanFrom, scanOf}
 use Rattle.window.specs.Value.{withMap, droppedOf}
-use Rattle.window.specs.Scan.{Seen, seenAll, cleared, scanFrom, scanOf}
-use Rattle.window.proofs.Scans.{scan-start, scan-end, scan-file, scan-stops}
-use Rattle.alloc.specs.Visits.{seenOf, visitsOf, seenIn, FileMarked}
+use Rattle.window.proofs.Scans.{marks-seen, scan-start, scan-end, scan-file, scan-stops}
+use Rattle.alloc.specs.Visits.{seenOf, visitsOf, seenIn}
+use Rattle.window.specs.inner.Facts.{windowOn, scope}
+use Rattle.alloc.specs.inner.Facts.{FileMarked}
+use Rattle.card.specs.inner.Cards.{cardWith}
 
 module _ (B N : ℕ) (image : List ℕ) (fs : List Entry) (count : ℕ) where
   -- what the files from place i on make of a window
   abbrev pub scanRest : ℕ → Lookahead → Scanned
-  scanRest i v = scanFrom N (seenAll (visitsOf B N image (slice i count fs))) v
+  scanRest i v = scanFrom N (seenAll (visitsOf (cardWith B N image) (slice i count fs))) v
 
   -- the scan of all files from the window v₀ comes to that of the files from place i on, from the window v
   pub record Scanning (start size : ℕ) (v₀ : Lookahead) (i : ℕ) (v : Lookahead) : Type 0 where
@@ -36,16 +38,16 @@ module _ (B N : ℕ) (image : List ℕ) (fs : List Entry) (count : ℕ) where
     scanned-all h = s .rest ∙ rw (slice-end fs i count (s .within) h) (scan-end N v)
 
     module _ (h : i < count) (l : count ≤ length fs) {m : List ℕ} {clean : Bool}
-        (f : FileMarked start size N (seenOf B N image (getD fs i noEntry)) (v .map) m clean) where
+        (f : FileMarked start size N (seenOf (cardWith B N image) (getD fs i noEntry)) (v .map) m clean) where
       abbrev file : Seen
-      file = seenOf B N image (getD fs i noEntry)
+      file = seenOf (cardWith B N image) (getD fs i noEntry)
 
       -- the file at place i, then the rest
-      first : scanRest 0 v₀ ≡ scanFrom N (seenAll (file ∷ visitsOf B N image (slice (i + 1) count fs))) v
+      first : scanRest 0 v₀ ≡ scanFrom N (seenAll (file ∷ visitsOf (cardWith B N image) (slice (i + 1) count fs))) v
       first = s .rest ∙ rw (slice-cons i count fs noEntry h l, add-one i)
 
-      map-is : m ≡ markAll (v .start) (v .size) N (v .map) (file .blocks)
-      map-is = f .marks ∙ sym (ap₂ (λ (a z : ℕ). markAll a z N (v .map) (file .blocks)) (s .start-is) (s .size-is))
+      map-is : m ≡ markAll N v (file .blocks)
+      map-is = f .marks ∙ sym (ap₂ (λ (a z : ℕ). markAll N (windowOn a z (v .map)) (file .blocks)) (s .start-is) (s .size-is)) ∙ sym (marks-seen N (file .blocks) v)
 
       pub scanned-one : clean ≡ true → Scanning start size v₀ (i + 1) (withMap v m)
       scanned-one e = record {
@@ -55,12 +57,12 @@ module _ (B N : ℕ) (image : List ℕ) (fs : List Entry) (count : ℕ) where
         rest = first ∙ scan-file N v file _ (sym (f .ends) ∙ e) ∙ ap (λ (x : List ℕ). scanRest (i + 1) (withMap v x)) (sym map-is);
       }
 
-      pub scanned-none : clean ≡ false → scanRest 0 v₀ ≡ record { ok = false; window = droppedOf (withMap v m) N }
+      pub scanned-none : clean ≡ false → scanRest 0 v₀ ≡ record { ok = false; window = droppedOf N (withMap v m) }
       scanned-none e = first ∙ scan-stops N v file _ (sym (f .ends) ∙ e)
-          ∙ ap (λ (x : List ℕ). record { ok = false; window = droppedOf (withMap v x) N }) (sym map-is)
+          ∙ ap (λ (x : List ℕ). record { ok = false; window = droppedOf N (withMap v x) }) (sym map-is)
 
 -- a whole scan
-pub scan-answers : (B N l : ℕ) (image : List ℕ) (t : Table) (w v₀ : Lookahead) {r : Scanned} → v₀ ≡ cleared w N l
-    → scanRest B N image (t .files) (t .count) 0 v₀ ≡ r → r ≡ scanOf N l (seenIn B N image t) w
+pub scan-answers : (B N l : ℕ) (image : List ℕ) (t : Table) (w v₀ : Lookahead) {r : Scanned} → v₀ ≡ cleared (scope N l) w
+    → scanRest B N image (t .files) (t .count) 0 v₀ ≡ r → r ≡ scanOf (scope N l) (seenIn (cardWith B N image) t) w
 unfolding seenIn
 scan-answers B N l image t w v₀ p q = sym q ∙ ap (λ (v : Lookahead). scanRest B N image (t .files) (t .count) 0 v) p ∙ sym (scan-start N l _ w)

@@ -15,34 +15,38 @@ use Rattle.window.specs.Value.{lookaheadFits, validOf}
 use Rattle.window.specs.Allocate.{allocOf}
 use Rattle.window.proofs.Valid.{looks, tested-valid}
 use Rattle.alloc.specs.Visits.{seenIn}
-use Rattle.alloc.specs.Allocate.{Ready, allocateOf}
+use Rattle.alloc.specs.Allocate.{allocateOf}
+use Rattle.window.specs.inner.Facts.{scope}
+use Rattle.alloc.specs.inner.Facts.{Ready}
+use Rattle.layout.specs.inner.Served.{geometry}
+use Rattle.card.specs.inner.Cards.{cardWith}
 
 module _ (B N l : ℕ) (image : List ℕ) (t : Table) (w : Lookahead) where
-  pub no-card : goodCard B N (length image) ≡ false → record { answer = Refused; window = w } ≡ allocateOf B N l image t w
+  pub no-card : goodCard (geometry B N) (length image) ≡ false → record { answer = Refused; window = w } ≡ allocateOf (cardWith B N image) l t w
   unfolding allocateOf
   no-card c = rw c
 
-  module _ (c : goodCard B N (length image) ≡ true) where
-    pub no-lookahead : lookaheadFits l ≡ false → record { answer = Refused; window = w } ≡ allocateOf B N l image t w
+  module _ (c : goodCard (geometry B N) (length image) ≡ true) where
+    pub no-lookahead : lookaheadFits l ≡ false → record { answer = Refused; window = w } ≡ allocateOf (cardWith B N image) l t w
     unfolding allocateOf
     no-lookahead a = rw (c, a)
 
     module _ (a : lookaheadFits l ≡ true) where
-      pub no-window : validOf w N l ≡ false → record { answer = Refused; window = w } ≡ allocateOf B N l image t w
+      pub no-window : validOf (scope N l) w ≡ false → record { answer = Refused; window = w } ≡ allocateOf (cardWith B N image) l t w
       unfolding allocateOf
       no-window v = rw (c, a, v)
 
-      module _ (v : validOf w N l ≡ true) where
-        pub no-table : tableOk t ≡ false → record { answer = Refused; window = w } ≡ allocateOf B N l image t w
+      module _ (v : validOf (scope N l) w ≡ true) where
+        pub no-table : tableOk t ≡ false → record { answer = Refused; window = w } ≡ allocateOf (cardWith B N image) l t w
         unfolding allocateOf
         no-table f = rw (c, a, v, f)
 
-        pub tested : {r : Allocated} → tableOk t ≡ true → r ≡ allocOf N l (seenIn B N image t) w → r ≡ allocateOf B N l image t w
+        pub tested : {r : Allocated} → tableOk t ≡ true → r ≡ allocOf (scope N l) (seenIn (cardWith B N image) t) w → r ≡ allocateOf (cardWith B N image) l t w
         unfolding allocateOf
         tested f e = rw (c, a, v, f) e
 
 -- behind the tests the allocation can begin
-pub ready : (B N l len : ℕ) (t : Table) (w : Lookahead) → goodCard B N len ≡ true → lookaheadFits l ≡ true → validOf w N l ≡ true → tableOk t ≡ true
+pub ready : (B N l len : ℕ) (t : Table) (w : Lookahead) → goodCard (geometry B N) len ≡ true → lookaheadFits l ≡ true → validOf (scope N l) w ≡ true → tableOk t ≡ true
     → Ready B N l len t w
 ready B N l len t w c a v f =
     let k = card B N len c in

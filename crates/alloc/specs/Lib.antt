@@ -1,3 +1,4 @@
 -- The definitions that the contracts of `alloc` cite.
 pub mod Visits
 pub mod Allocate
+pub mod inner

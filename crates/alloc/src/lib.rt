@@ -12,9 +12,13 @@ use window::Scanned;
 ghost use mathlib.Core.Path.{_≡_};
 ghost use lib.ListN.{length};
 ghost use Rattle.window.specs.Scan.{scanOf};
+ghost use Rattle.card.specs.Card.{cardOf};
 ghost use Rattle.window.specs.Allocate.{allocOf};
-ghost use Rattle.alloc.specs.Visits.{seenOf, seenIn, FileAsked, FileMarked};
-ghost use Rattle.alloc.specs.Allocate.{Ready, allocateOf};
+ghost use Rattle.alloc.specs.Visits.{seenOf, seenIn};
+ghost use Rattle.alloc.specs.Allocate.{allocateOf};
+ghost use Rattle.window.specs.inner.Facts.{scope};
+ghost use Rattle.alloc.specs.inner.Facts.{FileAsked, FileMarked, Ready};
+ghost use Rattle.card.specs.inner.Cards.{cardWith};
 
 // Every block of one file marked in the map of a window, as the visit hands it over; false where the visit meets -84.
 fn mark_file(
@@ -27,7 +31,7 @@ fn mark_file(
     file: Entry,
 ) -> bool
     requires { ⌜ FileAsked start size b n (length (now image)) file ⌝ }
-    ensures { λ r. ⌜ FileMarked start size n (seenOf b n (now (image .entry)) file) (now (map .entry)) (now (map .exit)) r ⌝ }
+    ensures { λ r. ⌜ FileMarked start size n (seenOf (cardWith b n (now (image .entry))) file) (now (map .entry)) (now (map .exit)) r ⌝ }
 {
     let bytes = file.size;
     if bytes == 0 {
@@ -63,7 +67,7 @@ fn mark_file(
 // A scan: the window moved and cleared, and every block of every file marked. A visit that meets -84 drops the window.
 pub fn alloc_scan(b: u32, n: u32, l: u32, image: &[u8], t: Table, w: Lookahead) -> Scanned
     requires { ⌜ Ready b n l (length (now image)) t w ⌝ }
-    ensures { λ r. ⌜ r ≡ scanOf n l (seenIn b n (now (image .entry)) t) w ⌝ }
+    ensures { λ r. ⌜ r ≡ scanOf (scope n l) (seenIn (cardWith b n (now (image .entry))) t) w ⌝ }
 {
     let mut v = window::cleared(w, n, l);
     let start = v.start;
@@ -91,7 +95,7 @@ pub fn alloc_scan(b: u32, n: u32, l: u32, image: &[u8], t: Table, w: Lookahead) 
 // The first unmarked block, with as many scans as that takes; no space once every block since the checkpoint was passed.
 pub fn alloc_in(b: u32, n: u32, l: u32, image: &[u8], t: Table, w: Lookahead) -> Allocated
     requires { ⌜ Ready b n l (length (now image)) t w ⌝ }
-    ensures { λ r. ⌜ r ≡ allocOf n l (seenIn b n (now (image .entry)) t) w ⌝ }
+    ensures { λ r. ⌜ r ≡ allocOf (scope n l) (seenIn (cardWith b n (now (image .entry))) t) w ⌝ }
 {
     let mut v = w;
     loop {
@@ -128,7 +132,7 @@ pub fn alloc_in(b: u32, n: u32, l: u32, image: &[u8], t: Table, w: Lookahead) ->
 
 // An allocation, for every input. Refused, before anything else: geometry, slice or L; then window or table.
 pub fn alloc(g: Geometry, l: u32, image: &[u8], t: Table, w: Lookahead) -> Allocated
-    ensures { λ r. ⌜ r ≡ allocateOf (g .«block_size») (g .«block_count») l (now (image .entry)) t w ⌝ }
+    ensures { λ r. ⌜ r ≡ allocateOf (cardOf g (now (image .entry))) l t w ⌝ }
 {
     let n = g.block_count;
     if card::good_card(g, image.len()) {

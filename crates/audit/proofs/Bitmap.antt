@@ -12,7 +12,7 @@ use lib.Pow.{pow-pos, pow-add, pow-lt, shl-shr}
 use lib.ListN.{length, getD, set}
 use lib.Seq.{getD-set-same, getD-set-other}
 use lib.Bits.{bitOr, or-shr, or-step}
-use Rattle.audit.specs.Bits.{bitOf, putBit}
+use Rattle.span.specs.Members.{bitIn, withBitIn}
 
 -- the lowest bit of an or
 or-low : (a b : ℕ) → bitOr a b % 2 ≡ max (a % 2) (b % 2)
@@ -74,6 +74,5 @@ module _ (map : List ℕ) (k j : ℕ) (h : k / 8 < length map) where
       let nj : j ≡ k → ⊥ = λ q. eqb-false _ _ e (ap (λ (n : ℕ). n / 8) q) in
       rw (getD-set-other map (k / 8) (j / 8) _ 0 (eqb-false _ _ e), ne-eqb j k nj) refl
 
-  pub bit-put : bitOf (putBit map k) j ≡ eqb j k || bitOf map j
-  unfolding bitOf putBit
+  pub bit-put : bitIn (withBitIn map k) j ≡ eqb j k || bitIn map j
   bit-put = by-byte (eqb (j / 8) (k / 8)) refl

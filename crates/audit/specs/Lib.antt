@@ -1,4 +1,3 @@
 -- The definitions that the contracts of `audit` cite.
-pub mod Bits
 pub mod Check
-pub mod Bounds
+pub mod inner

@@ -6,11 +6,12 @@ ghost use mathlib.Core.Path.{_≡_};
 ghost use mathlib.Core.List.{[]};
 ghost use lib.ListN.{length};
 ghost use Rattle.hops.specs.Walk.{ctz};
-ghost use Rattle.card.specs.Blocks.{pointer};
-ghost use Rattle.card.specs.Card.{Card};
 ghost use Rattle.ctz.specs.Lists.{down};
-ghost use Rattle.audit.specs.Bounds.{Clean, Holding};
 ghost use Rattle.audit.specs.Check.{falls, names, further, checkOf};
+ghost use Rattle.card.specs.inner.Cards.{CardFacts};
+ghost use Rattle.card.specs.Card.{cardOf, pointer};
+ghost use Rattle.audit.specs.inner.Bounds.{holder, CleanWalk, Holding};
+ghost use Rattle.ctz.specs.inner.Forms.{pointersWith};
 
 // What is wrong with a list, with its index and pointer number.
 pub enum Fault {
@@ -33,8 +34,8 @@ pub enum Checked {
 
 // The walk by pointer 0 from index top, whose block should be head, down to index 0; the numbers met are kept in a map of bits.
 fn walk_down(b: u32, n: u32, image: &[u8], top: u32, head: u32) -> Checked
-    requires { ⌜ Card b n (length (now image)) ⌝ }
-    ensures { λ r. ⌜ r ≡ falls (pointer (now (image .entry)) b) n top head [] ⌝ }
+    requires { ⌜ CardFacts b n (length (now image)) ⌝ }
+    ensures { λ r. ⌜ r ≡ falls (pointersWith n (pointer b (now (image .entry)))) top head [] ⌝ }
 {
     let mut met = [0u8; 8192];
     let mut i = top;
@@ -67,8 +68,8 @@ fn walk_down(b: u32, n: u32, image: &[u8], top: u32, head: u32) -> Checked
 
 // The number that lies d indexes below block k, by pointer 0.
 fn below_in(b: u32, n: u32, image: &[u8], k: u32, d: u32) -> u32
-    requires { ⌜ Clean (now image) b n d k ⌝ }
-    ensures { λ r. ⌜ r ≡ down (pointer (now (image .entry)) b) k d ⌝ }
+    requires { ⌜ CleanWalk (now image) b n d k ⌝ }
+    ensures { λ r. ⌜ r ≡ down (pointer b (now (image .entry))) k d ⌝ }
 {
     let mut at = k;
     let mut i: u32 = 0;
@@ -82,7 +83,7 @@ fn below_in(b: u32, n: u32, image: &[u8], k: u32, d: u32) -> u32
 // The further pointers of index i, whose block is k: pointer x names the block that lies 2 to the x indexes below.
 fn pointers_at(b: u32, n: u32, image: &[u8], i: u32, k: u32) -> Checked
     requires { ⌜ Holding (now image) b n i k ⌝ }
-    ensures { λ r. ⌜ r ≡ names (pointer (now (image .entry)) b) (ctz i) i k 1 ⌝ }
+    ensures { λ r. ⌜ r ≡ names (pointer b (now (image .entry))) (ctz i) (holder i k) 1 ⌝ }
 {
     let zeros = u32::trailing_zeros(i);
     let mut x: u32 = 1;
@@ -104,8 +105,8 @@ fn pointers_at(b: u32, n: u32, image: &[u8], i: u32, k: u32) -> Checked
 
 // The further pointers of each index from top, whose block is head, down to index 1.
 fn further_from(b: u32, n: u32, image: &[u8], top: u32, head: u32) -> Checked
-    requires { ⌜ Clean (now image) b n top head ⌝ }
-    ensures { λ r. ⌜ r ≡ further (pointer (now (image .entry)) b) top head ⌝ }
+    requires { ⌜ CleanWalk (now image) b n top head ⌝ }
+    ensures { λ r. ⌜ r ≡ further (pointer b (now (image .entry))) top head ⌝ }
 {
     let mut i = top;
     let mut k = head;
@@ -128,7 +129,7 @@ fn further_from(b: u32, n: u32, image: &[u8], top: u32, head: u32) -> Checked
 
 // The list check: the pointer-0 walk from the top, and if that is clean the further pointers; an empty list by its head alone.
 pub fn ctz_check(g: Geometry, image: &[u8], head: u32, size: u32) -> Checked
-    ensures { λ r. ⌜ r ≡ checkOf (g .«block_size») (g .«block_count») (now (image .entry)) head size ⌝ }
+    ensures { λ r. ⌜ r ≡ checkOf (cardOf g (now (image .entry))) (record { head = head; size = size }) ⌝ }
 {
     if !card::good_card(g, image.len()) {
         return Checked::Refused;

@@ -7,11 +7,13 @@ use lib.Count.{leadingZeros, trailingZeros}
 use lib.ListN.{replicate}
 use Rattle.span.specs.Words.{wordAt}
 use Rattle.layout.specs.Layout.{pointers, capacity, start, indexAt, offsetAt}
-use Rattle.card.specs.Blocks.{pointer}
-use Rattle.card.specs.Card.{goodCard}
+use Rattle.card.specs.Card.{goodCard, pointer}
 use Rattle.ctz.specs.Lookup.{walk, walkTo, lookupOf}
-use Rattle.ctz.specs.Visits.{visit, visitOf}
+use Rattle.ctz.specs.Visits.{visitOf, visit, hand}
 use Rattle.ctz.specs.declared.Found.the-variants.{At, Damaged, Refused}
+use Rattle.card.specs.inner.Cards.{cardWith}
+use Rattle.layout.specs.inner.Served.{blockList}
+use Rattle.ctz.specs.inner.Held.{visitHeld}
 
 four : ℕ → List ℕ
 four n = n ∷ 0 ∷ 0 ∷ 0 ∷ []
@@ -31,31 +33,31 @@ straight =
     ++ (four 3 ++ four 2 ++ four 0 ++ replicate 116 0) ++ (four 4 ++ replicate 124 0) ++ (four 5 ++ four 4 ++ replicate 120 0)
     ++ (four 6 ++ replicate 124 0) ++ (four 7 ++ four 6 ++ four 4 ++ four 0 ++ replicate 112 0)
 
-looked : (lookupOf 128 7 (scrambled 1) 2 500 128 ≡ At 6 4 2)
-    × (lookupOf 128 7 (scrambled 1) 2 500 496 ≡ At 2 12 0)
-    × (lookupOf 128 7 (scrambled 1) 2 500 0 ≡ At 3 0 1)
-    × (lookupOf 128 7 (scrambled 1) 2 500 500 ≡ Refused)
-    × (lookupOf 128 7 (scrambled 1) 9 0 500 ≡ At 4294967295 0 0)
+looked : (lookupOf (cardWith 128 7 (scrambled 1)) (blockList 2 500) 128 ≡ At 6 4 2)
+    × (lookupOf (cardWith 128 7 (scrambled 1)) (blockList 2 500) 496 ≡ At 2 12 0)
+    × (lookupOf (cardWith 128 7 (scrambled 1)) (blockList 2 500) 0 ≡ At 3 0 1)
+    × (lookupOf (cardWith 128 7 (scrambled 1)) (blockList 2 500) 500 ≡ Refused)
+    × (lookupOf (cardWith 128 7 (scrambled 1)) (blockList 9 0) 500 ≡ At 4294967295 0 0)
 unfolding lookupOf walkTo goodCard walk pointer wordAt indexAt offsetAt start capacity pointers trailingZeros leadingZeros scrambled four
 looked = (refl, refl, refl, refl, refl)
 
 -- on a damaged list: another block, of as many hops; a number not below N; and no test of what is not met
-damaged : (lookupOf 128 7 (scrambled 6) 2 500 300 ≡ At 6 56 1)
-    × (lookupOf 128 7 (scrambled 7) 2 500 300 ≡ Damaged)
-    × (lookupOf 128 7 (scrambled 7) 2 500 400 ≡ At 5 32 1)
+damaged : (lookupOf (cardWith 128 7 (scrambled 6)) (blockList 2 500) 300 ≡ At 6 56 1)
+    × (lookupOf (cardWith 128 7 (scrambled 7)) (blockList 2 500) 300 ≡ Damaged)
+    × (lookupOf (cardWith 128 7 (scrambled 7)) (blockList 2 500) 400 ≡ At 5 32 1)
 unfolding lookupOf walkTo goodCard walk pointer wordAt indexAt offsetAt start capacity pointers trailingZeros leadingZeros scrambled four
 damaged = (refl, refl, refl)
 
 -- hops 8 to 0 one, 7 to 0 three, 7 to 1 four, 3 to 1 two
-counted : (lookupOf 128 9 straight 8 981 0 ≡ At 0 0 1)
-    × (lookupOf 128 9 straight 7 857 0 ≡ At 0 0 3)
-    × (lookupOf 128 9 straight 7 857 128 ≡ At 1 4 4)
-    × (lookupOf 128 9 straight 3 373 128 ≡ At 1 4 2)
+counted : (lookupOf (cardWith 128 9 straight) (blockList 8 981) 0 ≡ At 0 0 1)
+    × (lookupOf (cardWith 128 9 straight) (blockList 7 857) 0 ≡ At 0 0 3)
+    × (lookupOf (cardWith 128 9 straight) (blockList 7 857) 128 ≡ At 1 4 4)
+    × (lookupOf (cardWith 128 9 straight) (blockList 3 373) 128 ≡ At 1 4 2)
 unfolding lookupOf walkTo goodCard walk pointer wordAt indexAt offsetAt start capacity pointers trailingZeros leadingZeros straight four
 counted = (refl, refl, refl, refl)
 
-visited : (visitOf 128 7 (scrambled 1) 2 500 ≡ record { handed = 2 ∷ 5 ∷ 1 ∷ 6 ∷ 3 ∷ []; clean = true })
-    × (visitOf 128 7 (scrambled 6) 2 500 ≡ record { handed = 2 ∷ 5 ∷ 6 ∷ 3 ∷ []; clean = false })
-    × (visitOf 128 7 (scrambled 7) 2 500 ≡ record { handed = 2 ∷ 5 ∷ []; clean = false })
-unfolding visitOf visit pointer wordAt indexAt start capacity pointers trailingZeros scrambled four
+visited : (visitOf (cardWith 128 7 (scrambled 1)) (blockList 2 500) ≡ record { handed = 2 ∷ 5 ∷ 1 ∷ 6 ∷ 3 ∷ []; clean = true })
+    × (visitOf (cardWith 128 7 (scrambled 6)) (blockList 2 500) ≡ record { handed = 2 ∷ 5 ∷ 6 ∷ 3 ∷ []; clean = false })
+    × (visitOf (cardWith 128 7 (scrambled 7)) (blockList 2 500) ≡ record { handed = 2 ∷ 5 ∷ []; clean = false })
+unfolding visitOf visit hand pointer wordAt indexAt start capacity pointers trailingZeros scrambled four
 visited = (refl, refl, refl)

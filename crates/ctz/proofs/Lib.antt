@@ -1,4 +1,5 @@
 -- The laws of lookup and visit.
+pub mod Sounds
 pub mod Room
 pub mod Walked
 pub mod Lookups

@@ -11,14 +11,14 @@ use lib.Pow.{pow-pos}
 use lib.Seq.{getD-set-same, getD-set-other}
 use Rattle.hops.specs.Walk.{ctz}
 use Rattle.hops.proofs.Through.{pick-last}
-use Rattle.card.specs.Blocks.{PointerAsked}
-use Rattle.ctz.specs.Runs.{seek, numberOf, Finds, Leads, Known, RunKnown, RunGives}
 use Rattle.ctz.specs.declared.Found.{Found}
 use Rattle.ctz.specs.declared.Found.the-variants.{At, Damaged, Refused}
 use Rattle.ctz.proofs.Room.{asked}
 use Rattle.ctz.proofs.Walked.{trail, pick-stored}
 use Rattle.ctz.proofs.Through.{through-at, through-lost}
 use Rattle.ctz.proofs.Lookups.{tells, answers}
+use Rattle.card.specs.inner.Cards.{PointerAsked}
+use Rattle.ctz.specs.inner.Runs.{seek, numberOf, Finds, Leads, RunFound, RunKnown, RunGives}
 
 -- ---- what the number of a lookup tells
 
@@ -81,12 +81,12 @@ module _ {ptr : ℕ → ℕ → ℕ} {B N head top first count j len : ℕ} {blo
 -- ---- the run from index first + j on
 
 module _ (ptr : ℕ → ℕ → ℕ) (N head top first count : ℕ) (blocks : List ℕ) where
-  pub known-none : Known ptr N head top first count blocks count
+  pub known-none : RunFound ptr N head top first count blocks count
   known-none m l h = absurd (omega arith)
 
   -- one more, below those
-  pub known-more : (i j k : ℕ) → i ≤ j + 1 → j < length blocks → Known ptr N head top first count blocks i → Finds ptr N head top (first + j) k
-      → Known ptr N head top first count (set blocks j k) j
+  pub known-more : (i j k : ℕ) → i ≤ j + 1 → j < length blocks → RunFound ptr N head top first count blocks i → Finds ptr N head top (first + j) k
+      → RunFound ptr N head top first count (set blocks j k) j
   known-more i j k next room old new m l h = ⊎-elim same other (eq-or-lt-of-le l)
     where
       same : j ≡ m → Finds ptr N head top (first + m) (getD (set blocks j k) m 0)
@@ -95,7 +95,7 @@ module _ (ptr : ℕ → ℕ → ℕ) (N head top first count : ℕ) (blocks : Li
       other : j < m → Finds ptr N head top (first + m) (getD (set blocks j k) m 0)
       other b = rw (getD-set-other blocks j m k 0 (λ e. omega arith)) (old m (omega arith) h)
 
-  pub known-all : (j : ℕ) {room : ℕ} → length blocks ≡ room → j ≤ 0 → Known ptr N head top first count blocks j
+  pub known-all : (j : ℕ) {room : ℕ} → length blocks ≡ room → j ≤ 0 → RunFound ptr N head top first count blocks j
       → RunGives ptr N head top first count room true blocks
   known-all j e z k = record { long = e; found = λ e m h. k m (omega arith) h; lost = λ e. let z : _≡_ {A = ℕ} 0 1 = cc in absurd (omega arith) }
 

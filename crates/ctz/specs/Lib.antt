@@ -2,5 +2,4 @@
 pub mod Lists
 pub mod Lookup
 pub mod Visits
-pub mod Bounds
-pub mod Runs
+pub mod inner

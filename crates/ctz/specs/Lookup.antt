@@ -1,68 +1,69 @@
 -- What a lookup answers (01, "Lookup, visit, grow").
 use mathlib.Core.Bool.{true, false}
-use mathlib.Core.List.{List}
 use Prim.Native.Nat.{ℕ, zero, suc, _-_, _^_}
 use lib.Dec.{ltb, eqb}
-use lib.IntN.{ℤ}
-use lib.ListN.{length}
-use Rattle.layout.specs.Numbers.{accepted, damaged-card, invalid, nullBlock, sizeMax}
-use Rattle.hops.specs.Walk.{pick}
-use Rattle.layout.specs.Layout.{indexAt, offsetAt}
-use Rattle.card.specs.Blocks.{pointer}
-use Rattle.card.specs.Card.{goodCard}
+use Rattle.hops.specs.Walk.{jump}
+use Rattle.layout.specs.Numbers.{nullBlock, sizeMax}
+use Rattle.layout.specs.Layout.{Index, Position, BlockNumber, BlockList, indexAt, offsetAt}
+use Rattle.card.specs.Card.{Card, isCard, pointer}
+use Rattle.ctz.specs.Lists.{topOf}
 use Rattle.ctz.specs.declared.Found.{Found}
 use Rattle.ctz.specs.declared.Found.the-variants.{At, Damaged, Refused}
 
--- At index cur in block k after some hops: a number not below N is -84; at the target the walk ends; else one hop takes pointer
--- min(whole part of log2(current - target), ctz(current)). Each hop lowers cur, so fuel of cur + 1 never runs out.
-unfoldable pub walk : ℕ → (ℕ → ℕ → ℕ) → ℕ → ℕ → ℕ → ℕ → ℕ → ℕ → Found
-walk zero ptr N off tgt cur k hops = Damaged
-walk (suc fuel) ptr N off tgt cur k hops =
-    elim (ltb k N) [
+-- what a walk reads of a card: how many blocks there are, and the number that block k stores as its pointer x
+pub record Pointers : Type 0 where
+  pub N : ℕ
+  pub stored : BlockNumber → ℕ → BlockNumber
+
+abbrev pub pointersIn : Card → Pointers
+pointersIn c = record { N = c .N; stored = pointer (c .B) (c .image) }
+
+-- where a lookup leads
+pub record Target : Type 0 where
+  pub index : Index
+  pub offset : ℕ
+
+-- where it stands: in the block of an index, after so many hops
+pub record Stand : Type 0 where
+  pub index : Index
+  pub block : BlockNumber
+  pub hops : ℕ
+
+-- one hop, by pointer x
+abbrev pub hopped : Pointers → Stand → ℕ → Stand
+hopped v s x = record { index = s .index - 2 ^ x; block = v .stored (s .block) x; hops = suc (s .hops) }
+
+-- A number not below N is -84; at the target the walk ends; else one hop takes pointer min(whole part of log2(current - target), ctz(current)).
+-- Each hop lowers the index, so fuel of one more than the index never runs out.
+unfoldable pub walk : ℕ → Pointers → Target → Stand → Found
+walk zero v t s = Damaged
+walk (suc fuel) v t s =
+    elim (ltb (s .block) (v .N)) [
       | false ↦ Damaged
-      | true ↦ elim (ltb tgt cur) [
-        | false ↦ At k off hops
-        | true ↦ walk fuel ptr N off tgt (cur - 2 ^ pick cur tgt) (ptr k (pick cur tgt)) (suc hops)
+      | true ↦ elim (ltb (t .index) (s .index)) [
+        | false ↦ At (s .block) (t .offset) (s .hops)
+        | true ↦ walk fuel v t (hopped v s (jump (record { from = s .index; to = t .index })))
       ]
     ]
 
--- from the index of size - 1 to the index of position p
-unfoldable pub walkTo : List ℕ → ℕ → ℕ → ℕ → ℕ → ℕ → Found
-walkTo image B N head size p =
-    walk (suc (indexAt B (size - 1))) (pointer image B) N (offsetAt B p) (indexAt B p) (indexAt B (size - 1)) head 0
+-- from the head, at the index of size - 1, to the index of position p
+unfoldable pub walkTo : Card → BlockList → Position → Found
+walkTo c l p =
+    walk (suc (topOf (c .B) l)) (pointersIn c)
+    (record { index = indexAt (c .B) p; offset = offsetAt (c .B) p })
+    (record { index = topOf (c .B) l; block = l .head; hops = 0 })
 
 -- Card, then a size above the largest: -22. Size 0 gives the null block, offset 0 and zero hops, whatever the position.
 -- Otherwise a position at or past the size is -22.
-unfoldable pub lookupOf : ℕ → ℕ → List ℕ → ℕ → ℕ → ℕ → Found
-lookupOf B N image head size p =
-    elim (goodCard B N (length image)) [
+unfoldable pub lookupOf : Card → BlockList → Position → Found
+lookupOf c l p =
+    elim (isCard c) [
       | false ↦ Refused
-      | true ↦ elim (ltb sizeMax size) [
+      | true ↦ elim (ltb sizeMax (l .size)) [
         | true ↦ Refused
-        | false ↦ elim (eqb size 0) [
+        | false ↦ elim (eqb (l .size) 0) [
           | true ↦ At nullBlock 0 0
-          | false ↦ elim (ltb p size) [ false ↦ Refused | true ↦ walkTo image B N head size p ]
+          | false ↦ elim (ltb p (l .size)) [ false ↦ Refused | true ↦ walkTo c l p ]
         ]
       ]
     ]
-
--- 01's number and values for each case
-abbrev pub codeOf : Found → ℤ
-codeOf (At k off hops) = accepted
-codeOf Damaged = damaged-card
-codeOf Refused = invalid
-
-abbrev pub blockOf : Found → ℕ
-blockOf (At k off hops) = k
-blockOf Damaged = 0
-blockOf Refused = 0
-
-abbrev pub offsetOf : Found → ℕ
-offsetOf (At k off hops) = off
-offsetOf Damaged = 0
-offsetOf Refused = 0
-
-abbrev pub hopsOf : Found → ℕ
-hopsOf (At k off hops) = hops
-hopsOf Damaged = 0
-hopsOf Refused = 0

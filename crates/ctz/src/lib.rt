@@ -6,10 +6,14 @@ use layout::Geometry;
 ghost use mathlib.Core.Path.{_≡_};
 ghost use Prim.Native.Nat.{suc, _^_, _≤_, _<_};
 ghost use lib.ListN.{length};
-ghost use Rattle.hops.specs.Walk.{pick};
-ghost use Rattle.card.specs.Blocks.{pointer};
-ghost use Rattle.ctz.specs.Bounds.{Walks, Sought};
+ghost use Rattle.hops.specs.Walk.{jump};
 ghost use Rattle.ctz.specs.Lookup.{walk, walkTo, lookupOf};
+ghost use Rattle.card.specs.Card.{cardOf, pointer};
+ghost use Rattle.hops.specs.inner.Ways.{way};
+ghost use Rattle.ctz.specs.inner.Forms.{pointersWith, target, stand};
+ghost use Rattle.card.specs.inner.Cards.{cardWith};
+ghost use Rattle.layout.specs.inner.Served.{blockList};
+ghost use Rattle.ctz.specs.inner.Bounds.{Walks, LookupAsked};
 
 // Where a position lies: its block, the offset in it, and how many pointers were followed to it.
 pub enum Found {
@@ -23,7 +27,7 @@ pub enum Found {
 // Which pointer a hop takes: the longest that the block has and that does not lead past the target.
 fn skip(cur: u32, tgt: u32) -> u32
     requires { ⌜ tgt < cur ⌝ }
-    ensures { λ r. ⌜ r ≡ pick cur tgt ⌝ }
+    ensures { λ r. ⌜ r ≡ jump (way cur tgt) ⌝ }
 {
     let log = 31 - u32::leading_zeros(cur - tgt);
     let zeros = u32::trailing_zeros(cur);
@@ -41,7 +45,7 @@ pub fn power(x: u32) -> u32
 // The walk from index top, whose block is head, to index tgt, with the offset that it is to answer.
 fn walk_to(b: u32, n: u32, image: &[u8], off: u32, tgt: u32, top: u32, head: u32) -> Found
     requires { ⌜ Walks b n top (length (now image)) ⌝ }
-    ensures { λ r. ⌜ r ≡ walk (suc top) (pointer (now (image .entry)) b) n off tgt top head 0 ⌝ }
+    ensures { λ r. ⌜ r ≡ walk (suc top) (pointersWith n (pointer b (now (image .entry)))) (target tgt off) (stand top head 0) ⌝ }
 {
     let mut cur = top;
     let mut k = head;
@@ -66,8 +70,8 @@ fn walk_to(b: u32, n: u32, image: &[u8], off: u32, tgt: u32, top: u32, head: u32
 
 // The lookup of a position below the size, on a card: for callers that have tested all that.
 pub fn find_in(b: u32, n: u32, image: &[u8], head: u32, size: u32, pos: u32) -> Found
-    requires { ⌜ Sought b n size pos (length (now image)) ⌝ }
-    ensures { λ r. ⌜ r ≡ walkTo (now (image .entry)) b n head size pos ⌝ }
+    requires { ⌜ LookupAsked b n size pos (length (now image)) ⌝ }
+    ensures { λ r. ⌜ r ≡ walkTo (cardWith b n (now (image .entry))) (blockList head size) pos ⌝ }
 {
     let top = layout::index_at(b, size - 1);
     let tgt = layout::index_at(b, pos);
@@ -77,7 +81,7 @@ pub fn find_in(b: u32, n: u32, image: &[u8], head: u32, size: u32, pos: u32) -> 
 
 // The lookup of a position: its block, offset and hops; the null block where the list is empty, refused at or past the size.
 pub fn ctz_find(g: Geometry, image: &[u8], head: u32, size: u32, pos: u32) -> Found
-    ensures { λ r. ⌜ r ≡ lookupOf (g .«block_size») (g .«block_count») (now (image .entry)) head size pos ⌝ }
+    ensures { λ r. ⌜ r ≡ lookupOf (cardOf g (now (image .entry))) (record { head = head; size = size }) pos ⌝ }
 {
     if !card::good_card(g, image.len()) {
         return Found::Refused;

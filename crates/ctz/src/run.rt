@@ -4,14 +4,14 @@ use layout::Geometry;
 ghost use mathlib.Core.Path.{_≡_};
 ghost use Prim.Native.Nat.{_+_};
 ghost use lib.ListN.{length};
-ghost use Rattle.card.specs.Blocks.{pointer};
-ghost use Rattle.ctz.specs.Bounds.{Walks, RunAsked};
-ghost use Rattle.ctz.specs.Runs.{seek, numberOf, Leads, RunKnown, RunGives};
+ghost use Rattle.card.specs.Card.{pointer};
+ghost use Rattle.ctz.specs.inner.Bounds.{Walks, RunAsked};
+ghost use Rattle.ctz.specs.inner.Runs.{seek, numberOf, Leads, RunKnown, RunGives};
 
 // The block of an index, by a walk from the head; the null block where the walk meets -84.
 fn walked(b: u32, n: u32, image: &[u8], head: u32, top: u32, i: u32) -> u32
     requires { ⌜ Walks b n top (length (now image)) ⌝ }
-    ensures { λ r. ⌜ r ≡ numberOf (seek (pointer (now (image .entry)) b) n head top i) ⌝ }
+    ensures { λ r. ⌜ r ≡ numberOf (seek (pointer b (now (image .entry))) n head top i) ⌝ }
 {
     let found = crate::walk_to(b, n, image, 0, i, top, head);
     match found {
@@ -38,8 +38,8 @@ fn led(
     j: u32,
     blocks: &[u32; 1024],
 ) -> u32
-    requires { ⌜ RunKnown (pointer (now image) b) b n head top first count j (length (now image)) (now blocks) ⌝ }
-    ensures { λ r. ⌜ Leads (pointer (now (image .entry)) b) n head top (first + j) r ⌝ }
+    requires { ⌜ RunKnown (pointer b (now image)) b n head top first count j (length (now image)) (now blocks) ⌝ }
+    ensures { λ r. ⌜ Leads (pointer b (now (image .entry))) n head top (first + j) r ⌝ }
 {
     let i = first + j;
     if i == 0 {
@@ -65,7 +65,7 @@ pub fn find_run(
     blocks: &mut [u32; 1024],
 ) -> bool
     requires { ⌜ RunAsked b n top first count (length (now image)) (length (now blocks)) ⌝ }
-    ensures { λ r. ⌜ RunGives (pointer (now (image .entry)) b) n head top first count (length (now (blocks .entry))) r (now (blocks .exit)) ⌝ }
+    ensures { λ r. ⌜ RunGives (pointer b (now (image .entry))) n head top first count (length (now (blocks .entry))) r (now (blocks .exit)) ⌝ }
 {
     let mut j = count;
     while 0 < j {

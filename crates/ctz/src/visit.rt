@@ -3,9 +3,10 @@ use layout::Geometry;
 use layout::Made;
 ghost use mathlib.Core.Path.{_≡_};
 ghost use lib.ListN.{length};
-ghost use Rattle.card.specs.Blocks.{pointer};
-ghost use Rattle.card.specs.Card.{Card};
 ghost use Rattle.ctz.specs.Visits.{beginOf, stepOf, traverseOf};
+ghost use Rattle.card.specs.inner.Cards.{CardFacts};
+ghost use Rattle.card.specs.Card.{cardOf, pointer};
+ghost use Rattle.ctz.specs.inner.Forms.{pointersWith};
 
 // The index to hand over next and its block number; and the number of the index below it, where that was read already.
 #[repr(C)]
@@ -37,7 +38,7 @@ pub enum Step {
 
 // The visit of a list at its last index; an empty list has no block, and a size above the largest is refused.
 pub fn ctz_visit(g: Geometry, head: u32, size: u32) -> Begun
-    ensures { λ r. ⌜ r ≡ beginOf (g .«block_size») (g .«block_count») head size ⌝ }
+    ensures { λ r. ⌜ r ≡ beginOf g (record { head = head; size = size }) ⌝ }
 {
     let made = Geometry::new(g.block_size, g.block_count);
     match made {
@@ -65,8 +66,8 @@ pub fn ctz_visit(g: Geometry, head: u32, size: u32) -> Begun
 
 // One step on a card. An odd index reads one pointer; an even one above 0 reads two, and the second is held for the index below.
 pub fn visit_step(b: u32, n: u32, image: &[u8], v: Visit) -> Step
-    requires { ⌜ Card b n (length (now image)) ⌝ }
-    ensures { λ r. ⌜ r ≡ stepOf (pointer (now (image .entry)) b) n v ⌝ }
+    requires { ⌜ CardFacts b n (length (now image)) ⌝ }
+    ensures { λ r. ⌜ r ≡ stepOf (pointersWith n (pointer b (now (image .entry)))) v ⌝ }
 {
     let k = v.block;
     if n <= k {
@@ -113,7 +114,7 @@ pub fn visit_step(b: u32, n: u32, image: &[u8], v: Visit) -> Step
 
 // One step, on an image that is a card or else refused.
 pub fn ctz_traverse(g: Geometry, image: &[u8], v: Visit) -> Step
-    ensures { λ r. ⌜ r ≡ traverseOf (g .«block_size») (g .«block_count») (now (image .entry)) v ⌝ }
+    ensures { λ r. ⌜ r ≡ traverseOf (cardOf g (now (image .entry))) v ⌝ }
 {
     if !card::good_card(g, image.len()) {
         return Step::Refused;

@@ -1,7 +1,6 @@
 -- Any store call on any state, sound or not: a refused one hands the table back as it came. Assumes nothing.
 use mathlib.Core.Path.{_≡_, refl}
 use mathlib.Core.Logic.{_⊎_, inl, inr}
-use mathlib.Core.List.{List}
 use Prim.Native.Nat.{ℕ}
 use lib.IntN.{pos, negsuc}
 use Rattle.files.specs.declared.Table.{Table}
@@ -12,7 +11,8 @@ use Rattle.files.proofs.Kept.{create-cases, remove-cases}
 use Rattle.store.specs.declared.Outcome.the-variants as outcome
 use Rattle.store.specs.Store.{StoreOut}
 use Rattle.store.proofs.Refusals as refusals
-use Rattle.demands.specs.Calls.{State, Call, create, remove, write, truncate, look, Left, changedIn, storedIn, after}
+use Rattle.demands.specs.Calls.{Call, create, remove, write, truncate, look, Left, changedIn, storedIn, after}
+use Rattle.grow.specs.Setting.{Setting, State}
 
 -- accepted; refused, with all as it came; or -28 or -84, with the table as it came
 pub data AnyEnd (s : State) (o : Left) : Type 0 where
@@ -44,10 +44,12 @@ module _ (s : State) where
   stored-any (refusals.damaged w image) = stopped 83 (inr refl) refl refl
 
 -- Each call ends in one of these ways, whatever it is given.
-pub any-end : (B N l : ℕ) (health : List ℕ) (c : Call) (s : State) → AnyEnd s (after B N l health c s)
+pub any-end : (g : Setting) (c : Call) (s : State) → AnyEnd s (after g c s)
 unfolding after
-any-end B N l health (create number) s = create-cases (s .table) number (λ o. AnyEnd s (changedIn s o)) (refused-any s) (λ q. done refl)
-any-end B N l health (remove number) s = remove-cases (s .table) number (λ o. AnyEnd s (changedIn s o)) (refused-any s) (λ q. done refl)
-any-end B N l health (write number p src) s = stored-any s (refusals.write-ends B N l (s .image) health (s .window) (s .table) number p src)
-any-end B N l health (truncate number size) s = stored-any s (refusals.truncate-ends B N l (s .image) health (s .window) (s .table) number size)
-any-end B N l health look s = done refl
+any-end g (create number) s = create-cases (s .table) number (λ o. AnyEnd s (changedIn s o)) (refused-any s) (λ q. done refl)
+any-end g (remove number) s = remove-cases (s .table) number (λ o. AnyEnd s (changedIn s o)) (refused-any s) (λ q. done refl)
+any-end g (write w) s =
+    stored-any s (refusals.write-ends (g .B) (g .N) (g .L) (s .image) (g .health) (s .window) (s .table) (w .number) (w .position) (w .bytes))
+any-end g (truncate t) s =
+    stored-any s (refusals.truncate-ends (g .B) (g .N) (g .L) (s .image) (g .health) (s .window) (s .table) (t .number) (t .size))
+any-end g look s = done refl

@@ -3,28 +3,32 @@ use mathlib.Core.Path.{_≡_, refl, sym, ap, ap₂, _∙_, subst}
 use mathlib.Core.Logic.{_⊎_, inl, inr}
 use mathlib.Core.Bool.{Bool, true, false, _||_}
 use mathlib.Core.List.{List, [], _∷_, _++_}
-use Prim.Native.Nat.{ℕ, zero, suc, _-_, _≤_}
+use Prim.Native.Nat.{ℕ, zero, suc, _-_, _≤_, _<_}
 use native.Mathlib.Omega.{arith}
-use borrow.Author.Tests.{ltb-true}
+use borrow.Author.Tests.{ltb-true, eqb-true, eqb-false}
 use lib.Dec.{ltb, eqb}
 use lib.ListN.{take}
 use Rattle.layout.specs.Layout.{indexAt}
-use Rattle.layout.specs.Place.{Sized}
-use Rattle.card.specs.Blocks.{pointer}
-use Rattle.ctz.specs.Visits.{Visited, hand, nextBlock, nextAfter, reads-two, visit, visitOf}
+use Rattle.ctz.proofs.Visiting.{visit-empty, visit-begins}
+use Rattle.ctz.specs.Visits.{Visited, visitOf}
 use Rattle.files.specs.declared.Entry.{Entry}
-use Rattle.window.specs.Scan.{Seen, Below, seenAll, listedOf}
+use Rattle.window.specs.Scan.{Seen, seenAll, listedOf}
 use Rattle.window.proofs.Cases.{no-both}
-use Rattle.windows.specs.Call.{Shows}
+use Rattle.windows.proofs.Views.{Shows, Below}
 use Rattle.windows.proofs.Has.{has-none, has-head, has-tail, has-cases, has-append, below-none, below-more, below-append}
 use Rattle.windows.proofs.Listed.{AllBelow, AllOk, lists, tells}
-use Rattle.alloc.specs.Visits.{told, seenOf, visitsOf}
-use Rattle.writes.specs.Allocator.{Stays}
+use Rattle.alloc.specs.Visits.{seenOf, visitsOf, seenFrom}
 use Rattle.writes.proofs.Cells.{pointer-same}
+use Rattle.grow.specs.Setting.{Setting}
 use Rattle.demands.specs.Space.{readBy}
 use Rattle.demands.proofs.Tables.{listedBy, has-left, has-right}
 use Rattle.demands.proofs.Windows.{Listed}
 use Rattle.span.specs.Members.{has}
+use Rattle.writes.proofs.Allocators.{Stays}
+use Rattle.layout.specs.inner.Served.{BlockSized, blockList}
+use Rattle.card.specs.Card.{pointer}
+use Rattle.card.specs.inner.Cards.{cardWith}
+use Rattle.ctz.specs.inner.Held.{visitHeld, reads-two, nextBlock, nextAfter, handOn}
 
 -- ---- one visit
 
@@ -38,84 +42,95 @@ module _ (ptr ptr′ : ℕ → ℕ → ℕ) (N : ℕ) where
   same-after k false a = refl
 
   visit-same : (i k : ℕ) (held : Bool) (after : ℕ)
-      → ((b : ℕ) → has (take i (visit ptr N i k held after .handed)) b ≡ true → (x : ℕ) → x ≤ 1 → ptr′ b x ≡ ptr b x)
-      → visit ptr′ N i k held after ≡ visit ptr N i k held after
-  unfolding visit
+      → ((b : ℕ) → has (take i (visitHeld ptr N i k held after .handed)) b ≡ true → (x : ℕ) → x ≤ 1 → ptr′ b x ≡ ptr b x)
+      → visitHeld ptr′ N i k held after ≡ visitHeld ptr N i k held after
+  unfolding visitHeld
   visit-same zero k held after a = refl
   visit-same (suc i) k held after a = go (ltb k N) refl (visit-same i)
     where
       go : (t : Bool) → ltb k N ≡ t
           → ((k : ℕ) (held : Bool) (after : ℕ)
-          → ((b : ℕ) → has (take i (visit ptr N i k held after .handed)) b ≡ true → (x : ℕ) → x ≤ 1 → ptr′ b x ≡ ptr b x)
-          → visit ptr′ N i k held after ≡ visit ptr N i k held after)
-          → visit ptr′ N (suc i) k held after ≡ visit ptr N (suc i) k held after
-      go false e ih = rw (visit, e)
+          → ((b : ℕ) → has (take i (visitHeld ptr N i k held after .handed)) b ≡ true → (x : ℕ) → x ≤ 1 → ptr′ b x ≡ ptr b x)
+          → visitHeld ptr′ N i k held after ≡ visitHeld ptr N i k held after)
+          → visitHeld ptr′ N (suc i) k held after ≡ visitHeld ptr N (suc i) k held after
+      go false e ih = rw (visitHeld, e)
       go true e ih =
           let r = reads-two (suc i) held in
-          let q : visit ptr N (suc i) k held after ≡ hand k (visit ptr N i (nextBlock ptr k held after) r (nextAfter ptr k r)) = rw (visit, e) in
-          let q′ : visit ptr′ N (suc i) k held after ≡ hand k (visit ptr′ N i (nextBlock ptr′ k held after) r (nextAfter ptr′ k r)) = rw (visit, e) in
-          let a′ : (b : ℕ) → has (k ∷ take i (visit ptr N i (nextBlock ptr k held after) r (nextAfter ptr k r) .handed)) b ≡ true → (x : ℕ) → x ≤ 1 → ptr′ b x ≡ ptr b x =
+          let q : visitHeld ptr N (suc i) k held after ≡ handOn k (visitHeld ptr N i (nextBlock ptr k held after) r (nextAfter ptr k r)) = rw (visitHeld, e) in
+          let q′ : visitHeld ptr′ N (suc i) k held after ≡ handOn k (visitHeld ptr′ N i (nextBlock ptr′ k held after) r (nextAfter ptr′ k r)) = rw (visitHeld, e) in
+          let a′ : (b : ℕ) → has (k ∷ take i (visitHeld ptr N i (nextBlock ptr k held after) r (nextAfter ptr k r) .handed)) b ≡ true → (x : ℕ) → x ≤ 1 → ptr′ b x ≡ ptr b x =
           λ b h. a b (subst (λ (v : Visited). has (take (suc i) (v .handed)) b ≡ true) (sym q) h) in
           let ak = a′ k (has-head k _) in
-          q′ ∙ ap₂ (λ (y z : ℕ). hand k (visit ptr′ N i y r z)) (same-block k after held ak) (same-after k r ak)
-          ∙ ap (hand k) (ih (nextBlock ptr k held after) r (nextAfter ptr k r) (λ b h. a′ b (has-tail k _ b h))) ∙ sym q
+          q′ ∙ ap₂ (λ (y z : ℕ). handOn k (visitHeld ptr′ N i y r z)) (same-block k after held ak) (same-after k r ak)
+          ∙ ap (handOn k) (ih (nextBlock ptr k held after) r (nextAfter ptr k r) (λ b h. a′ b (has-tail k _ b h))) ∙ sym q
 
   -- each number is tested against N just before it is handed over
-  visit-below : (i k : ℕ) (held : Bool) (after : ℕ) → Below N (visit ptr N i k held after .handed)
-  unfolding visit
+  visit-below : (i k : ℕ) (held : Bool) (after : ℕ) → Below N (visitHeld ptr N i k held after .handed)
+  unfolding visitHeld
   visit-below zero k held after = go (ltb k N) refl
     where
-      go : (t : Bool) → ltb k N ≡ t → Below N (visit ptr N zero k held after .handed)
-      go false e = rw (visit, e) (below-none N)
-      go true e = rw (visit, e) (below-more N k [] (ltb-true k N e) (below-none N))
+      go : (t : Bool) → ltb k N ≡ t → Below N (visitHeld ptr N zero k held after .handed)
+      go false e = rw (visitHeld, e) (below-none N)
+      go true e = rw (visitHeld, e) (below-more N k [] (ltb-true k N e) (below-none N))
   visit-below (suc i) k held after = go (ltb k N) refl (visit-below i)
     where
-      go : (t : Bool) → ltb k N ≡ t → ((k : ℕ) (held : Bool) (after : ℕ) → Below N (visit ptr N i k held after .handed)) → Below N (visit ptr N (suc i) k held after .handed)
-      go false e ih = rw (visit, e) (below-none N)
+      go : (t : Bool) → ltb k N ≡ t → ((k : ℕ) (held : Bool) (after : ℕ) → Below N (visitHeld ptr N i k held after .handed)) → Below N (visitHeld ptr N (suc i) k held after .handed)
+      go false e ih = rw (visitHeld, e) (below-none N)
       go true e ih =
-          rw (visit, e) (below-more N k _ (ltb-true k N e) (ih (nextBlock ptr k held after) (reads-two (suc i) held) (nextAfter ptr k (reads-two (suc i) held))))
+          rw (visitHeld, e) (below-more N k _ (ltb-true k N e) (ih (nextBlock ptr k held after) (reads-two (suc i) held) (nextAfter ptr k (reads-two (suc i) held))))
 
 -- ---- the visits of a table
 
-module _ (B N : ℕ) (img : List ℕ) where
-  file-below : (e : Entry) → Below N (visitOf B N img (e .head) (e .size) .handed)
-  unfolding visitOf
+module _ (g : Setting) (img : List ℕ) where
+  abbrev B : ℕ
+  B = g .B
+
+  abbrev N : ℕ
+  N = g .N
+
+  some : (e : Entry) → eqb (e .size) 0 ≡ false → 0 < e .size
+  some e q = let z = eqb-false (e .size) 0 q in omega arith
+
+  file-below : (e : Entry) → Below N (visitOf (cardWith B N img) (blockList (e .head) (e .size)) .handed)
   file-below e = go (eqb (e .size) 0) refl
     where
-      go : (t : Bool) → eqb (e .size) 0 ≡ t → Below N (visitOf B N img (e .head) (e .size) .handed)
-      go true q = rw (visitOf, q) (below-none N)
-      go false q = rw (visitOf, q) (visit-below (pointer img B) (pointer img B) N (indexAt B _) (e .head) false 0)
+      go : (t : Bool) → eqb (e .size) 0 ≡ t → Below N (visitOf (cardWith B N img) (blockList (e .head) (e .size)) .handed)
+      go true q = rw (visit-empty B N img (e .head) (e .size) (eqb-true (e .size) 0 q)) (below-none N)
+      go false q =
+          rw (visit-begins B N img (e .head) (e .size) (some e q)) (visit-below (pointer B img) (pointer B img) N (indexAt B (e .size - 1)) (e .head) false 0)
 
-  pub all-below : (es : List Entry) → AllBelow N (visitsOf B N img es)
+  pub all-below : (es : List Entry) → AllBelow (g .N) (visitsOf (cardWith (g .B) (g .N) img) es)
   all-below [] = AllBelow.none
   all-below (e ∷ es) = AllBelow.one (file-below e) (all-below es)
 
   module _ (img′ : List ℕ) where
     file-same : (e : Entry)
-        → ((b : ℕ) → has (take (indexAt B (e .size - 1)) (visitOf B N img (e .head) (e .size) .handed)) b ≡ true → (x : ℕ) → x ≤ 1 → pointer img′ B b x ≡ pointer img B b x)
-        → visitOf B N img′ (e .head) (e .size) ≡ visitOf B N img (e .head) (e .size)
-    unfolding visitOf
+        → ((b : ℕ) → has (take (indexAt B (e .size - 1)) (visitOf (cardWith B N img) (blockList (e .head) (e .size)) .handed)) b ≡ true → (x : ℕ) → x ≤ 1 → pointer B img′ b x ≡ pointer B img b x)
+        → visitOf (cardWith B N img′) (blockList (e .head) (e .size)) ≡ visitOf (cardWith B N img) (blockList (e .head) (e .size))
     file-same e a = go (eqb (e .size) 0) refl
       where
-        go : (t : Bool) → eqb (e .size) 0 ≡ t → visitOf B N img′ (e .head) (e .size) ≡ visitOf B N img (e .head) (e .size)
-        go true q = rw (visitOf, q)
+        go : (t : Bool) → eqb (e .size) 0 ≡ t → visitOf (cardWith B N img′) (blockList (e .head) (e .size)) ≡ visitOf (cardWith B N img) (blockList (e .head) (e .size))
+        go true q =
+            let z = eqb-true (e .size) 0 q in
+            visit-empty B N img′ (e .head) (e .size) z ∙ sym (visit-empty B N img (e .head) (e .size) z)
         go false q =
-            let z : visitOf B N img (e .head) (e .size) ≡ visit (pointer img B) N (indexAt B (e .size - 1)) (e .head) false 0 = rw (visitOf, q) in
-            let z′ : visitOf B N img′ (e .head) (e .size) ≡ visit (pointer img′ B) N (indexAt B (e .size - 1)) (e .head) false 0 = rw (visitOf, q) in
-            z′ ∙ visit-same (pointer img B) (pointer img′ B) N (indexAt B (e .size - 1)) (e .head) false 0
+            let z : visitOf (cardWith B N img) (blockList (e .head) (e .size)) ≡ visitHeld (pointer B img) N (indexAt B (e .size - 1)) (e .head) false 0 = visit-begins B N img (e .head) (e .size) (some e q) in
+            let z′ : visitOf (cardWith B N img′) (blockList (e .head) (e .size)) ≡ visitHeld (pointer B img′) N (indexAt B (e .size - 1)) (e .head) false 0 = visit-begins B N img′ (e .head) (e .size) (some e q) in
+            z′ ∙ visit-same (pointer B img) (pointer B img′) N (indexAt B (e .size - 1)) (e .head) false 0
             (λ b h. a b (subst (λ (v : Visited). has (take (indexAt B (e .size - 1)) (v .handed)) b ≡ true) (sym z) h)) ∙ sym z
 
-    files-same : (es : List Entry) → ((b : ℕ) → has (readBy B N img es) b ≡ true → (x : ℕ) → x ≤ 1 → pointer img′ B b x ≡ pointer img B b x)
-        → visitsOf B N img′ es ≡ visitsOf B N img es
+    files-same : (es : List Entry) → ((b : ℕ) → has (readBy g img es) b ≡ true → (x : ℕ) → x ≤ 1 → pointer B img′ b x ≡ pointer B img b x)
+        → visitsOf (cardWith B N img′) es ≡ visitsOf (cardWith B N img) es
     unfolding readBy
     files-same [] a = refl
     files-same (e ∷ es) a =
-        ap₂ (λ (v : Visited) (vs : List Seen). told v ∷ vs)
-        (file-same e (λ b h. a b (has-left (take (indexAt B (e .size - 1)) (seenOf B N img e .blocks)) (readBy B N img es) b h)))
-        (files-same es (λ b h. a b (has-right (take (indexAt B (e .size - 1)) (seenOf B N img e .blocks)) (readBy B N img es) b h)))
+        ap₂ (λ (v : Visited) (vs : List Seen). seenFrom v ∷ vs)
+        (file-same e (λ b h. a b (has-left (take (indexAt B (e .size - 1)) (seenOf (cardWith B N img) e .blocks)) (readBy g img es) b h)))
+        (files-same es (λ b h. a b (has-right (take (indexAt B (e .size - 1)) (seenOf (cardWith B N img) e .blocks)) (readBy g img es) b h)))
 
     -- They hand over the same on every image on which what they read stands.
-    pub seen-again : (es : List Entry) → Sized B → Stays B (Listed (readBy B N img es)) img img′ → seenAll (visitsOf B N img′ es) ≡ seenAll (visitsOf B N img es)
+    pub seen-again : (es : List Entry) → BlockSized (g .B) → Stays (g .B) (Listed (readBy g img es)) img img′
+        → seenAll (visitsOf (cardWith (g .B) (g .N) img′) es) ≡ seenAll (visitsOf (cardWith (g .B) (g .N) img) es)
     seen-again es sized st =
         ap seenAll (files-same es (λ b h x l. pointer-same B img img′ b b x (omega (arith, sized .least)) (λ o m n. st b o h (omega (arith, sized .least)))))
 
@@ -127,18 +142,24 @@ has-take (suc n) (x ∷ xs) b e = has-cases x (take n xs) b (has (x ∷ xs) b �
     (λ q. has-tail x xs b (has-take n xs b q))
 
 -- what they read is listed
-pub read-listed : (B N : ℕ) (img : List ℕ) (es : List Entry) (b : ℕ) → has (readBy B N img es) b ≡ true → has (listedBy B N es img) b ≡ true
+pub read-listed : (g : Setting) (img : List ℕ) (es : List Entry) (b : ℕ) → has (readBy g img es) b ≡ true → has (listedBy (g .B) (g .N) es img) b ≡ true
 unfolding readBy listedOf
-read-listed B N img [] b e = e
-read-listed B N img (e ∷ es) b h = go (has front b) refl (sym (has-append front (readBy B N img es) b) ∙ h) (read-listed B N img es b)
+read-listed g img [] b e = e
+read-listed g img (e ∷ es) b h = go (has front b) refl (sym (has-append front (readBy g img es) b) ∙ h) (read-listed g img es b)
   where
-    front : List ℕ
-    front = take (indexAt B (e .size - 1)) (seenOf B N img e .blocks)
+    B : ℕ
+    B = g .B
 
-    go : (t : Bool) → has front b ≡ t → (t || has (readBy B N img es) b) ≡ true → (has (readBy B N img es) b ≡ true → has (listedBy B N es img) b ≡ true)
-        → has (seenOf B N img e .blocks ++ listedBy B N es img) b ≡ true
-    go true q k ih = has-left (seenOf B N img e .blocks) (listedBy B N es img) b (has-take (indexAt B (e .size - 1)) (seenOf B N img e .blocks) b q)
-    go false q k ih = has-right (seenOf B N img e .blocks) (listedBy B N es img) b (ih k)
+    N : ℕ
+    N = g .N
+
+    front : List ℕ
+    front = take (indexAt B (e .size - 1)) (seenOf (cardWith B N img) e .blocks)
+
+    go : (t : Bool) → has front b ≡ t → (t || has (readBy g img es) b) ≡ true → (has (readBy g img es) b ≡ true → has (listedBy B N es img) b ≡ true)
+        → has (seenOf (cardWith B N img) e .blocks ++ listedBy B N es img) b ≡ true
+    go true q k ih = has-left (seenOf (cardWith B N img) e .blocks) (listedBy B N es img) b (has-take (indexAt B (e .size - 1)) (seenOf (cardWith B N img) e .blocks) b q)
+    go false q k ih = has-right (seenOf (cardWith B N img) e .blocks) (listedBy B N es img) b (ih k)
 
 -- no visit fails, or the scan is told so
 ok-or-not : (vs : List Seen) → AllOk vs ⊎ (seenAll vs .ok ≡ false)

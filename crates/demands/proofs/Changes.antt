@@ -12,10 +12,9 @@ use Rattle.ctz.proofs.Visiting.{visit-empty}
 use Rattle.files.specs.declared.Entry.{Entry}
 use Rattle.files.specs.Change.{emptyFile, insertOf, withoutOf}
 use Rattle.files.proofs.Replaced.{altered}
-use Rattle.plain.specs.Lists.{Good}
 use Rattle.window.specs.declared.Lookahead.{Lookahead}
 use Rattle.window.specs.Scan.{Seen, listedOf}
-use Rattle.windows.specs.Call.{Became}
+use Rattle.windows.proofs.Views.{Became}
 use Rattle.windows.proofs.Has.{not-in-none, not-in-both, not-in-left, not-in-right}
 use Rattle.windows.proofs.Came.{fewer-clean}
 use Rattle.windows.proofs.Listed.{became-set}
@@ -24,6 +23,9 @@ use Rattle.demands.proofs.Tables.{listedBy, SoundFiles, none, one}
 use Rattle.demands.proofs.Store.{Before}
 use Rattle.demands.proofs.Again.{sounds-set, visits-set}
 use Rattle.layout.specs.Numbers.{nullBlock}
+use Rattle.card.specs.inner.Cards.{cardWith}
+use Rattle.layout.specs.inner.Served.{blockList}
+use Rattle.plain.specs.inner.Forms.{GoodList}
 
 module _ (B N l : ℕ) (w : Lookahead) (img : List ℕ) where
   -- a table of sound lists that lists no more than another, with its window
@@ -40,23 +42,23 @@ module _ (B N l : ℕ) (w : Lookahead) (img : List ℕ) where
       → Became (listedBy B N (e ∷ es) img) [] (listedBy B N (e ∷ now) img)
   unfolding listedOf
   behind e es now r b p n =
-      not-in-both (seenOf B N img e .blocks) (listedBy B N now img) b (not-in-left (seenOf B N img e .blocks) (listedBy B N es img) b p)
-      (r b (not-in-right (seenOf B N img e .blocks) (listedBy B N es img) b p) n)
+      not-in-both (seenOf (cardWith B N img) e .blocks) (listedBy B N now img) b (not-in-left (seenOf (cardWith B N img) e .blocks) (listedBy B N es img) b p)
+      (r b (not-in-right (seenOf (cardWith B N img) e .blocks) (listedBy B N es img) b p) n)
 
   -- all files but the first
   all-but : (e : Entry) (es : List Entry) → Became (listedBy B N (e ∷ es) img) [] (listedBy B N es img)
   unfolding listedOf
-  all-but e es b p n = not-in-right (seenOf B N img e .blocks) (listedBy B N es img) b p
+  all-but e es b p n = not-in-right (seenOf (cardWith B N img) e .blocks) (listedBy B N es img) b p
 
   module _ (files : List Entry) (bf : Before B N l files w img) where
     -- an empty list is sound on every card
-    none-good : Good B N img 0
+    none-good : GoodList B N img 0
     none-good = record { good = bf .good; fits = omega arith }
 
-    none-sound : SoundList img B N nullBlock 0
+    none-sound : SoundList (cardWith B N img) (blockList nullBlock 0)
     none-sound = record { null = λ z. refl; list = λ p. absurd (omega arith) }
 
-    no-blocks : (number : ℕ) → seenOf B N img (emptyFile number) .blocks ≡ []
+    no-blocks : (number : ℕ) → seenOf (cardWith B N img) (emptyFile number) .blocks ≡ []
     no-blocks number = ap (λ (v : Visited). v .handed) (visit-empty B N img nullBlock 0 refl)
 
     -- an empty file put in
@@ -72,7 +74,7 @@ module _ (B N l : ℕ) (w : Lookahead) (img : List ℕ) where
     nothing-more : (number : ℕ) (es : List Entry) → Became (listedBy B N es img) [] (listedBy B N (emptyFile number ∷ es) img)
     unfolding listedOf
     nothing-more number es b p n =
-        not-in-both (seenOf B N img (emptyFile number) .blocks) (listedBy B N es img) b (rw (no-blocks number) (not-in-none b)) p
+        not-in-both (seenOf (cardWith B N img) (emptyFile number) .blocks) (listedBy B N es img) b (rw (no-blocks number) (not-in-none b)) p
 
     insert-became : (number : ℕ) (es : List Entry) → Became (listedBy B N es img) [] (listedBy B N (insertOf number es) img)
     unfolding insertOf
@@ -117,5 +119,5 @@ module _ (B N l : ℕ) (w : Lookahead) (img : List ℕ) where
     empty-keeps e m =
         fewer files (set files m (altered e 0 nullBlock)) bf (sounds-set B N img m (altered e 0 nullBlock) none-good none-sound (bf .sounds))
         (subst (λ (vs : List Seen). Became (listedBy B N files img) [] (listedOf vs)) (sym (visits-set B N img files m (altered e 0 nullBlock)))
-        (became-set (visitsOf B N img files) m (seenOf B N img (altered e 0 nullBlock)) []
+        (became-set (visitsOf (cardWith B N img) files) m (seenOf (cardWith B N img) (altered e 0 nullBlock)) []
         (λ b p n. rw (no-blocks (e .number)) (not-in-none b))))

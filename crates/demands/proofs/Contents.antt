@@ -11,9 +11,10 @@ use Rattle.files.specs.declared.Entry.{Entry}
 use Rattle.files.specs.Change.{emptyFile, insertOf, withoutOf}
 use Rattle.plain.specs.Bytes.{span, bytes}
 use Rattle.demands.specs.Came.{Among, here, there}
-use Rattle.demands.specs.Plain.{PlainFile, holds, bytesOf, plainCreate, plainRemove, plainChange}
+use Rattle.demands.specs.Plain.{PlainFile, plainCreate, plainRemove, plainChange, hasFile, fileBytes}
 use Rattle.demands.specs.Runs.{fileIn}
 use Rattle.demands.proofs.Named.{Placed, first, next, Unnamed, none, one}
+use Rattle.layout.specs.inner.Served.{blockList}
 
 -- how these files read
 abbrev pub Plainly : ℕ → List ℕ → List Entry → List PlainFile
@@ -31,20 +32,20 @@ change-none number g k (f ∷ fs) = go (eqb (f .number) number) refl (change-non
 
 module _ (B : ℕ) (img : List ℕ) where
   -- whether there is one of that number, and its bytes
-  pub placed-holds : {number m : ℕ} {e : Entry} {es : List Entry} → Placed number e m es → holds number (map (fileIn B img) es) ≡ true
-  unfolding holds
-  placed-holds {number} {e = e} (first q) = rw (holds, eq-eqb (e .number) number q)
-  placed-holds {number} (next {x = x} n p) = rw (holds, ne-eqb (x .number) number n) (placed-holds p)
+  pub placed-holds : {number m : ℕ} {e : Entry} {es : List Entry} → Placed number e m es → hasFile number (map (fileIn B img) es) ≡ true
+  unfolding hasFile
+  placed-holds {number} {e = e} (first q) = rw (hasFile, eq-eqb (e .number) number q)
+  placed-holds {number} (next {x = x} n p) = rw (hasFile, ne-eqb (x .number) number n) (placed-holds p)
 
-  pub unnamed-holds : {number : ℕ} {es : List Entry} → Unnamed number es → holds number (map (fileIn B img) es) ≡ false
-  unfolding holds
+  pub unnamed-holds : {number : ℕ} {es : List Entry} → Unnamed number es → hasFile number (map (fileIn B img) es) ≡ false
+  unfolding hasFile
   unnamed-holds none = refl
-  unnamed-holds {number} (one {x = x} n u) = rw (holds, ne-eqb (x .number) number n) (unnamed-holds u)
+  unnamed-holds {number} (one {x = x} n u) = rw (hasFile, ne-eqb (x .number) number n) (unnamed-holds u)
 
-  pub placed-bytes : {number m : ℕ} {e : Entry} {es : List Entry} → Placed number e m es → bytesOf number (map (fileIn B img) es) ≡ bytes img B (e .head) (e .size)
-  unfolding bytesOf
-  placed-bytes {number} {e = e} (first q) = rw (bytesOf, eq-eqb (e .number) number q)
-  placed-bytes {number} (next {x = x} n p) = rw (bytesOf, ne-eqb (x .number) number n) (placed-bytes p)
+  pub placed-bytes : {number m : ℕ} {e : Entry} {es : List Entry} → Placed number e m es → fileBytes number (map (fileIn B img) es) ≡ bytes B img (blockList (e .head) (e .size))
+  unfolding fileBytes
+  placed-bytes {number} {e = e} (first q) = rw (fileBytes, eq-eqb (e .number) number q)
+  placed-bytes {number} (next {x = x} n p) = rw (fileBytes, ne-eqb (x .number) number n) (placed-bytes p)
 
   no-bytes : (number : ℕ) → fileIn B img (emptyFile number) ≡ record { number = number; bytes = [] }
   unfolding bytes span
@@ -75,7 +76,7 @@ module _ (B : ℕ) (img : List ℕ) where
 module _ (B : ℕ) (img img′ : List ℕ) where
   -- files that read as before
   abbrev pub Read : List Entry → Type 0
-  Read es = (x : Entry) → Among x es → bytes img′ B (x .head) (x .size) ≡ bytes img B (x .head) (x .size)
+  Read es = (x : Entry) → Among x es → bytes B img′ (blockList (x .head) (x .size)) ≡ bytes B img (blockList (x .head) (x .size))
 
   pub same-files : (es : List Entry) → Read es → map (fileIn B img′) es ≡ map (fileIn B img) es
   same-files [] r = refl
@@ -84,7 +85,7 @@ module _ (B : ℕ) (img img′ : List ℕ) where
 
   -- one file changed
   pub change-files : {number m : ℕ} {e : Entry} {es : List Entry} (g : List ℕ → List ℕ) → Placed number e m es → Read es → (e′ : Entry)
-      → e′ .number ≡ e .number → bytes img′ B (e′ .head) (e′ .size) ≡ g (bytes img B (e .head) (e .size))
+      → e′ .number ≡ e .number → bytes B img′ (blockList (e′ .head) (e′ .size)) ≡ g (bytes B img (blockList (e .head) (e .size)))
       → map (fileIn B img′) (set es m e′) ≡ plainChange number g (map (fileIn B img) es)
   unfolding plainChange
   change-files {number} {e = e} g (first {es} q) r e′ n b =

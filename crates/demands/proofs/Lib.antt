@@ -1,4 +1,6 @@
 -- The theorems on the store.
+pub mod Records
+pub mod Overwrites
 pub mod Files
 pub mod Windows
 pub mod Tables

@@ -1,12 +1,10 @@
 -- Size, seek, read and stretch of a file of a table of sound lists answer what the plain files give, for every number, position, room and offset. Assumes nothing.
 use mathlib.Core.Path.{_≡_, refl, sym, ap, _∙_}
 use mathlib.Core.Bool.{true, false}
-use mathlib.Core.List.{List, []}
+use mathlib.Core.List.{List}
 use Prim.Native.Nat.{ℕ, _-_, _≤_, min}
 use native.Mathlib.Omega.{arith}
-use borrow.Author.Tests.{lt-ltb, le-ltb}
-use lib.Dec.{leb, ltb}
-use lib.IntN.{ℤ, pos, negsuc}
+use borrow.Author.Tests.{lt-ltb}
 use lib.ListN.{length, take, drop}
 use Rattle.layout.specs.Layout.{offsetAt}
 use Rattle.ctz.specs.Lists.{SoundList}
@@ -15,160 +13,163 @@ use Rattle.files.specs.declared.Found.{Found}
 use Rattle.files.specs.declared.Found.the-variants as found
 use Rattle.files.specs.declared.Sized.the-variants as sized
 use Rattle.files.specs.declared.position.Sought.the-variants as sought
-use Rattle.files.specs.Table.{held, file}
-use Rattle.files.specs.Find.{findOf, sizeOf}
-use Rattle.files.specs.Seek.{whenceOf, seekOf}
+use Rattle.files.specs.Table.{held, file, findOf, sizeOf}
+use Rattle.files.specs.Seek.{whenceOf, seekOf, Seek}
 use Rattle.files.proofs.Cases as cases
 use Rattle.files.proofs.Tests.{ltb-cases, leb-cases}
-use Rattle.plain.specs.Lists.{Good}
 use Rattle.plain.specs.Bytes.{bytes}
 use Rattle.plain.proofs.Files.{bytes-length}
 use Rattle.reading.specs.declared.Reading.the-variants as reading
-use Rattle.reading.specs.Calls.{askedOf, readOf, stretchOf, stretchBytes}
-use Rattle.reading.specs.Codes.{placedCode}
+use Rattle.reading.specs.Calls.{askedOf, readOf, stretchOf, stretchBytes, placedCode, FilePosition}
 use Rattle.reading.proofs.Plain as reads
-use Rattle.demands.specs.Calls.{State}
 use Rattle.demands.specs.Came.{Sounds}
-use Rattle.demands.specs.Plain.{PlainFile, bytesOf}
-use Rattle.demands.specs.Looks.{plainSize, plainSeek, readFrom, plainRead, plainStretch, stretchCode}
+use Rattle.demands.specs.Calls.{Shape}
+use Rattle.demands.specs.Plain.{PlainFile, hasFile, fileBytes}
+use Rattle.demands.specs.Looks.{plainSize, plainSeek, plainRead, stretchFrom, plainStretch, stretchCode}
 use Rattle.demands.specs.Runs.{filesIn}
 use Rattle.demands.proofs.Tables.{of-sounds}
 use Rattle.demands.proofs.Again.{among-at}
-use Rattle.demands.proofs.Named.{Placed, placed-at, FindView, high, missing, at, find-view, number-high, number-none, number-some}
+use Rattle.demands.proofs.Named.{Placed, placed-at, Unnamed, FindView, high, missing, at, find-view, meets-high, meets-none, meets-far, meets-file}
 use Rattle.demands.proofs.Contents.{placed-holds, unnamed-holds, placed-bytes}
 use Rattle.demands.proofs.Kept.{sound-files}
-use Rattle.layout.specs.Numbers.{numberMax, sizeMax}
+use Rattle.layout.specs.Numbers.{sizeMax, accepted}
+use Rattle.grow.specs.Setting.{State}
+use Rattle.card.specs.inner.Cards.{cardWith}
+use Rattle.layout.specs.inner.Served.{blockList}
+use Rattle.plain.specs.inner.Forms.{GoodList}
+use Rattle.reading.specs.inner.Bounds.{filePosition}
 
-module _ {B N : ℕ} {s : State} (sounds : Sounds B N s) (number : ℕ) where
+module _ {g : Shape} {s : State} (sounds : Sounds g s) where
+  abbrev B : ℕ
+  B = g .B
+
+  abbrev N : ℕ
+  N = g .N
+
   abbrev t : Table
   t = s .table
 
   abbrev fs : List PlainFile
   fs = filesIn B s
 
-  module _ (i : ℕ) (pl : Placed number (file t i) i (held t)) where
-    good : Good B N (s .image) (file t i .size)
-    good = of-sounds (sound-files B N s sounds) (among-at (placed-at pl)) .0
+  module _ (number i : ℕ) (pl : Placed number (file t i) i (held t)) where
+    good : GoodList B N (s .image) (file t i .size)
+    good = of-sounds (sound-files B N (g .L) s sounds) (among-at (placed-at pl)) .0
 
-    sl : SoundList (s .image) B N (file t i .head) (file t i .size)
-    sl = of-sounds (sound-files B N s sounds) (among-at (placed-at pl)) .1
+    sl : SoundList (cardWith B N (s .image)) (blockList (file t i .head) (file t i .size))
+    sl = of-sounds (sound-files B N (g .L) s sounds) (among-at (placed-at pl)) .1
 
-    bytes-here : bytesOf number fs ≡ bytes (s .image) B (file t i .head) (file t i .size)
+    here : hasFile number fs ≡ true
+    here = placed-holds B (s .image) pl
+
+    bytes-here : fileBytes number fs ≡ bytes B (s .image) (blockList (file t i .head) (file t i .size))
     bytes-here = placed-bytes B (s .image) pl
 
-    length-here : length (bytesOf number fs) ≡ file t i .size
+    length-here : length (fileBytes number fs) ≡ file t i .size
     length-here = ap length bytes-here ∙ bytes-length good sl
+
+  none-here : (number : ℕ) → Unnamed number (held t) → hasFile number fs ≡ false
+  none-here number u = unnamed-holds B (s .image) u
 
   -- ---- size
 
-  pub size-plain : sizeOf (s .table) number ≡ plainSize number (filesIn B s)
-  size-plain = go (find-view t number (sounds .table)) refl
+  pub size-plain : (number : ℕ) → sizeOf (s .table) number ≡ plainSize number (filesIn (g .B) s)
+  size-plain number = go (find-view t number (sounds .table)) refl
     where
       go : {r : Found} → FindView t number r → findOf t number ≡ r → sizeOf t number ≡ plainSize number fs
-      go (high k) q = sym (cases.size-refused t number (findOf t number) refl q) ∙ sym (number-high number fs _ _ _ k)
-      go (missing a u) q = sym (cases.size-missing t number (findOf t number) refl q) ∙ sym (number-none number fs _ _ _ a (unnamed-holds B (s .image) u))
+      go (high k) q = rw (plainSize, meets-high number 0 fs k) (sym (cases.size-refused t number (findOf t number) refl q))
+      go (missing a u) q = rw (plainSize, meets-none number 0 fs a (none-here number u)) (sym (cases.size-missing t number (findOf t number) refl q))
       go (at i a b pl) q =
-          sym (cases.size-at t number (findOf t number) refl i q) ∙ ap sized.Bytes (sym (length-here i pl))
-          ∙ sym (number-some number fs _ _ _ a (placed-holds B (s .image) pl))
+          rw (plainSize, meets-file number 0 fs a (here number i pl) (omega arith))
+          (sym (cases.size-at t number (findOf t number) refl i q) ∙ ap sized.Bytes (sym (length-here number i pl)))
 
   -- ---- seek
 
-  pub seek-plain : (position : ℕ) (offset whence : ℤ) → seekOf (s .table) number position offset whence ≡ plainSeek number position offset whence (filesIn B s)
-  seek-plain position offset whence = go (find-view t number (sounds .table)) refl
+  pub seek-plain : (k : Seek)
+      → seekOf (s .table) (record { number = (k .number); position = (k .position); offset = (k .offset); whence = (k .whence) }) ≡ plainSeek k (filesIn (g .B) s)
+  seek-plain k = go (find-view t number (sounds .table)) refl
     where
-      there : (i : ℕ) → Placed number (file t i) i (held t) → findOf t number ≡ found.At i
-          → seekOf t number position offset whence
-          ≡ (elim (leb position sizeMax) [ true ↦ whenceOf position (length (bytesOf number fs)) offset whence | false ↦ sought.Refused ])
-      there i pl q =
-          leb-cases position sizeMax
-          (λ b. seekOf t number position offset whence ≡ (elim b [ true ↦ whenceOf position (length (bytesOf number fs)) offset whence | false ↦ sought.Refused ]))
-          (λ n. cases.seek-at t number (findOf t number) refl position offset whence i q n
-          ∙ ap (λ (z : ℕ). whenceOf position z offset whence) (sym (length-here i pl)))
-          (λ f. sym (cases.seek-far t number (findOf t number) refl position offset whence i q f))
+      number : ℕ
+      number = k .number
 
-      go : {r : Found} → FindView t number r → findOf t number ≡ r → seekOf t number position offset whence ≡ plainSeek number position offset whence fs
-      go (high k) q = sym (cases.seek-refused t number (findOf t number) refl position offset whence q) ∙ sym (number-high number fs _ _ _ k)
+      position : ℕ
+      position = k .position
+
+      go : {r : Found} → FindView t (k .number) r → findOf t (k .number) ≡ r
+          → seekOf t (record { number = (k .number); position = (k .position); offset = (k .offset); whence = (k .whence) }) ≡ plainSeek k fs
+      go (high h) q =
+          rw (plainSeek, meets-high number position fs h) (sym (cases.seek-refused t number (findOf t number) refl position (k .offset) (k .whence) q))
       go (missing a u) q =
-          sym (cases.seek-missing t number (findOf t number) refl position offset whence q)
-          ∙ sym (number-none number fs _ _ _ a (unnamed-holds B (s .image) u))
-      go (at i a b pl) q = there i pl q ∙ sym (number-some number fs _ _ _ a (placed-holds B (s .image) pl))
+          rw (plainSeek, meets-none number position fs a (none-here number u))
+          (sym (cases.seek-missing t number (findOf t number) refl position (k .offset) (k .whence) q))
+      go (at i a b pl) q =
+          leb-cases position sizeMax (λ b. seekOf t (record { number = number; position = position; offset = (k .offset); whence = (k .whence) }) ≡ plainSeek k fs)
+          (λ n. rw (plainSeek, meets-file number position fs a (here number i pl) n) (cases.seek-at t number (findOf t number) refl position (k .offset) (k .whence) i q n
+          ∙ ap (λ (z : ℕ). whenceOf (record { number = number; position = position; offset = (k .offset); whence = (k .whence) }) z) (sym (length-here number i pl))))
+          (λ f. rw (plainSeek, meets-far number position fs a (here number i pl) f)
+          (sym (cases.seek-far t number (findOf t number) refl position (k .offset) (k .whence) i q f)))
 
   -- ---- read
 
-  pub read-plain : (p : ℕ) (buffer : List ℕ) → readOf B N (s .image) (s .table) number p buffer ≡ plainRead number p buffer (filesIn B s)
-  unfolding readOf askedOf
-  read-plain p buffer = go (find-view t number (sounds .table)) refl
-    where
-      there : (i : ℕ) → Placed number (file t i) i (held t) → findOf t number ≡ found.At i
-          → readOf B N (s .image) t number p buffer
-          ≡ (elim (ltb sizeMax p) [ true ↦ record { answer = reading.Refused; buffer = buffer } | false ↦ readFrom (bytesOf number fs) p buffer ])
-      there i pl q =
-          ltb-cases sizeMax p
-          (λ b. readOf B N (s .image) t number p buffer
-          ≡ (elim b [ true ↦ record { answer = reading.Refused; buffer = buffer } | false ↦ readFrom (bytesOf number fs) p buffer ]))
-          (λ f. rw (readOf, askedOf, sounds .card, q, lt-ltb sizeMax p f))
-          (λ n. reads.read-plain B N (s .image) t number i p (sounds .card) q n (sl i pl) buffer
-          ∙ rw (length-here i pl, bytes-here i pl))
+  module _ (number p : ℕ) where
+    read-there : (buffer : List ℕ) → readOf (cardWith B N (s .image)) t (filePosition number p) buffer ≡ plainRead (filePosition number p) buffer fs
+    unfolding readOf askedOf
+    read-there buffer = go (find-view t number (sounds .table)) refl
+      where
+        go : {r : Found} → FindView t number r → findOf t number ≡ r → readOf (cardWith B N (s .image)) t (filePosition number p) buffer ≡ plainRead (filePosition number p) buffer fs
+        go (high k) q = rw (plainRead, meets-high number p fs k) (rw (readOf, askedOf, sounds .card, q))
+        go (missing a u) q = rw (plainRead, meets-none number p fs a (none-here number u)) (rw (readOf, askedOf, sounds .card, q))
+        go (at i a b pl) q =
+            ltb-cases sizeMax p (λ b. readOf (cardWith B N (s .image)) t (filePosition number p) buffer ≡ plainRead (filePosition number p) buffer fs)
+            (λ f. rw (plainRead, meets-far number p fs a (here number i pl) f) (rw (readOf, askedOf, sounds .card, q, lt-ltb sizeMax p f)))
+            (λ n. rw (plainRead, meets-file number p fs a (here number i pl) n) (reads.read-plain B N (s .image) t number i p (sounds .card) q n (sl number i pl) buffer
+            ∙ rw (length-here number i pl, bytes-here number i pl)))
 
-      go : {r : Found} → FindView t number r → findOf t number ≡ r → readOf B N (s .image) t number p buffer ≡ plainRead number p buffer fs
-      go (high k) q = rw (readOf, askedOf, sounds .card, q) (sym (number-high number fs _ _ _ k))
-      go (missing a u) q = rw (readOf, askedOf, sounds .card, q) (sym (number-none number fs _ _ _ a (unnamed-holds B (s .image) u)))
-      go (at i a b pl) q = there i pl q ∙ sym (number-some number fs _ _ _ a (placed-holds B (s .image) pl))
+    -- ---- stretch
 
-  -- ---- stretch
-
-  module _ (p : ℕ) where
     abbrev part : Type 0
-    part = stretchBytes (s .image) (stretchOf B N (s .image) t number p) ≡ plainStretch B number p fs
+    part = stretchBytes (s .image) (stretchOf (cardWith B N (s .image)) t (filePosition number p)) ≡ plainStretch B (filePosition number p) fs
 
     abbrev code : Type 0
-    code = placedCode (stretchOf B N (s .image) t number p) ≡ stretchCode number p fs
+    code = placedCode (stretchOf (cardWith B N (s .image)) t (filePosition number p)) ≡ stretchCode (filePosition number p) fs
 
-    stretch-there : (i : ℕ) → Placed number (file t i) i (held t) → findOf t number ≡ found.At i → p ≤ sizeMax
-        → (stretchBytes (s .image) (stretchOf B N (s .image) t number p)
-        ≡ take (min (B - offsetAt B p) (length (bytesOf number fs) - p)) (drop p (bytesOf number fs)))
-        × (placedCode (stretchOf B N (s .image) t number p) ≡ pos 0)
-    stretch-there i pl q n =
-        ltb-cases p (file t i .size) (λ b. (stretchBytes (s .image) (stretchOf B N (s .image) t number p)
-        ≡ take (min (B - offsetAt B p) (length (bytesOf number fs) - p)) (drop p (bytesOf number fs)))
-        × (placedCode (stretchOf B N (s .image) t number p) ≡ pos 0))
+    stretch-at : (i : ℕ) → Placed number (file t i) i (held t) → findOf t number ≡ found.At i → p ≤ sizeMax
+        → (stretchBytes (s .image) (stretchOf (cardWith B N (s .image)) t (filePosition number p)) ≡ stretchFrom B (fileBytes number fs) p)
+        × (placedCode (stretchOf (cardWith B N (s .image)) t (filePosition number p)) ≡ accepted)
+    stretch-at i pl q n =
+        ltb-cases p (file t i .size) (λ b. (stretchBytes (s .image) (stretchOf (cardWith B N (s .image)) t (filePosition number p)) ≡ stretchFrom B (fileBytes number fs) p)
+        × (placedCode (stretchOf (cardWith B N (s .image)) t (filePosition number p)) ≡ accepted))
         (λ l. (
-          reads.stretch-plain B N (s .image) t number i p (sounds .card) q n (sl i pl) l ∙ rw (length-here i pl, bytes-here i pl),
-          ap placedCode (reads.stretch-at B N (s .image) t number i p (sounds .card) q n (sl i pl) l),
+          reads.stretch-plain B N (s .image) t number i p (sounds .card) q n (sl number i pl) l ∙ rw (length-here number i pl, bytes-here number i pl),
+          ap placedCode (reads.stretch-at B N (s .image) t number i p (sounds .card) q n (sl number i pl) l),
         ))
         (λ m.
-        let e = reads.stretch-end B N (s .image) t number i p (sounds .card) q n (sl i pl) m in
-        let z : 0 ≡ min (B - offsetAt B p) (length (bytesOf number fs) - p) = omega (arith, length-here i pl) in (
-          ap (stretchBytes (s .image)) e ∙ ap (λ (k : ℕ). take k (drop p (bytesOf number fs))) z,
+        let e = reads.stretch-end B N (s .image) t number i p (sounds .card) q n (sl number i pl) m in
+        let z : 0 ≡ min (B - offsetAt B p) (length (fileBytes number fs) - p) = omega (arith, length-here number i pl) in (
+          ap (stretchBytes (s .image)) e ∙ ap (λ (k : ℕ). take k (drop p (fileBytes number fs))) z,
           ap placedCode e,
         ))
 
-    pub stretch-plain : (stretchBytes (s .image) (stretchOf B N (s .image) (s .table) number p) ≡ plainStretch B number p (filesIn B s))
-        × (placedCode (stretchOf B N (s .image) (s .table) number p) ≡ stretchCode number p (filesIn B s))
+    stretch-there : part × code
     unfolding stretchOf askedOf
-    stretch-plain = go (find-view t number (sounds .table)) refl
+    stretch-there = go (find-view t number (sounds .table)) refl
       where
-        there : (i : ℕ) → number ≤ numberMax → Placed number (file t i) i (held t) → findOf t number ≡ found.At i → part × code
-        there i a pl q =
-            let h = placed-holds B (s .image) pl in
-            ltb-cases sizeMax p (λ b. part × code)
-            (λ f. (
-              rw (stretchOf, askedOf, sounds .card, q, lt-ltb sizeMax p f) (sym (number-some number fs [] [] _ a h)),
-              rw (stretchOf, askedOf, sounds .card, q, lt-ltb sizeMax p f) (sym (number-some number fs (negsuc 21) (negsuc 1) _ a h)),
-            ))
-            (λ n.
-            let r = stretch-there i pl q n in (
-              r .0 ∙ sym (number-some number fs [] [] _ a h ∙ rw (le-ltb sizeMax p n)),
-              r .1 ∙ sym (number-some number fs (negsuc 21) (negsuc 1) _ a h ∙ rw (le-ltb sizeMax p n)),
-            ))
-
         go : {r : Found} → FindView t number r → findOf t number ≡ r → part × code
-        go (high k) q = (
-          rw (stretchOf, askedOf, sounds .card, q) (sym (number-high number fs [] [] _ k)),
-          rw (stretchOf, askedOf, sounds .card, q) (sym (number-high number fs (negsuc 21) (negsuc 1) _ k)),
-        )
-        go (missing a u) q = (
-          rw (stretchOf, askedOf, sounds .card, q) (sym (number-none number fs [] [] _ a (unnamed-holds B (s .image) u))),
-          rw (stretchOf, askedOf, sounds .card, q) (sym (number-none number fs (negsuc 21) (negsuc 1) _ a (unnamed-holds B (s .image) u))),
-        )
-        go (at i a b pl) q = there i a pl q
+        go (high k) q =
+            rw (plainStretch, meets-high number p fs k) (rw (stretchOf, askedOf, sounds .card, q), rw (stretchOf, askedOf, sounds .card, q))
+        go (missing a u) q =
+            rw (plainStretch, meets-none number p fs a (none-here number u)) (rw (stretchOf, askedOf, sounds .card, q), rw (stretchOf, askedOf, sounds .card, q))
+        go (at i a b pl) q =
+            ltb-cases sizeMax p (λ b. part × code)
+            (λ f. rw (plainStretch, meets-far number p fs a (here number i pl) f)
+            (rw (stretchOf, askedOf, sounds .card, q, lt-ltb sizeMax p f), rw (stretchOf, askedOf, sounds .card, q, lt-ltb sizeMax p f)))
+            (λ n. rw (plainStretch, meets-file number p fs a (here number i pl) n) (stretch-at i pl q n))
+
+  pub read-plain : (r : FilePosition) (buffer : List ℕ)
+      → readOf (cardWith (g .B) (g .N) (s .image)) (s .table) (filePosition (r .number) (r .position)) buffer ≡ plainRead r buffer (filesIn (g .B) s)
+  read-plain r buffer = read-there (r .number) (r .position) buffer
+
+  pub stretch-plain : (r : FilePosition)
+      → (stretchBytes (s .image) (stretchOf (cardWith (g .B) (g .N) (s .image)) (s .table) (filePosition (r .number) (r .position))) ≡ plainStretch (g .B) r (filesIn (g .B) s))
+      × (placedCode (stretchOf (cardWith (g .B) (g .N) (s .image)) (s .table) (filePosition (r .number) (r .position))) ≡ stretchCode r (filesIn (g .B) s))
+  stretch-plain r = stretch-there (r .number) (r .position)

@@ -8,29 +8,28 @@ use lib.IntN.{pos, negsuc}
 use lib.ListN.{replicate}
 use Rattle.span.specs.Words.{bytes32, wordAt}
 use Rattle.layout.specs.Layout.{pointers, capacity, start, indexAt, offsetAt}
-use Rattle.card.specs.Blocks.{pointer}
-use Rattle.card.specs.Card.{goodCard}
+use Rattle.card.specs.Card.{goodCard, pointer}
 use Rattle.ctz.specs.Lookup.{walk, walkTo}
-use Rattle.ctz.specs.Visits.{visit, visitOf}
+use Rattle.ctz.specs.Visits.{visitOf, visit, hand}
 use Rattle.device.specs.Device.{stored, wiped}
 use Rattle.device.specs.Health.{eachValid, healthOk}
 use Rattle.files.specs.declared.Entry.{Entry}
-use Rattle.files.specs.Find.{searchOf, findOf}
-use Rattle.files.specs.Table.{headOk, entryOk, filesOk, tableOf, tableOk}
-use Rattle.window.specs.Allocate.{allocBy, allocOf}
-use Rattle.window.specs.Marks.{markAll, markMap}
-use Rattle.window.specs.Scan.{cleared, listedOf, scanOf, seenAll}
-use Rattle.window.specs.Search.{freeFrom, skip, takeOf}
+use Rattle.files.specs.Table.{searchOf, findOf, headOk, entryOk, filesOk, tableOf, tableOk}
+use Rattle.window.specs.Allocate.{allocBy, allocOf, skip, takeOf}
+use Rattle.window.specs.Scan.{markAll, markMap, cleared, listedOf, scanOf, seenAll}
 use Rattle.window.specs.Value.{lookaheadFits, validOf}
-use Rattle.windows.specs.Space.{tally, usedFor}
 use Rattle.alloc.specs.Visits.{seenIn, listedIn}
-use Rattle.grow.specs.Extend.{windowAlloc}
-use Rattle.grow.specs.Grow.{part, pointersOf, linkOf, spoils, growOf}
-use Rattle.store.specs.Write.{fronted, filledOf, grownOf, writeOf, starts, wanted, looked, firstHead, putOf}
-use Rattle.store.specs.Store.{puts, storeTruncate, truncateFile}
-use Rattle.demands.specs.Calls.{State, Left, truncate, after}
+use Rattle.store.specs.Write.{ahead, then, tail, trialOf, starts, wanted, looked, firstHead}
+use Rattle.trials.specs.Steps.{done, series, programs}
+use Rattle.trials.specs.Trial.{takenBy}
+use Rattle.trials.specs.Loop.{tried, followed, turnOf, writeBy}
+use Rattle.grow.specs.Setting.{testedOf, Setting, State}
+use Rattle.grow.specs.Growth.{links, growth}
+use Rattle.store.specs.Store.{putOn, atFile, truncateAt, storeTruncate}
+use Rattle.demands.specs.Calls.{Left, truncate, after}
 use Rattle.demands.specs.Space.{goodFree, goodUsable, readBy, usedIn}
 use Rattle.span.specs.Members.{has}
+use Rattle.windows.specs.Space.{usedFor, tally}
 
 abbrev good : List ℕ
 good = 0 ∷ 0 ∷ []
@@ -52,19 +51,22 @@ from byte size es =
 abbrev two : List Entry
 two = record { number = 1; size = 200; head = 0 } ∷ []
 
+abbrev pair : Setting
+pair = record { B = 128; N = 2; L = 8; health = good }
+
 -- 252 bytes for file 2: they need two blocks
 grown : State → Left
-grown s = after 128 2 8 good (truncate 2 252) s
+grown s = after pair (truncate (record { number = 2; size = 252 })) s
 
 -- Nothing is listed, and block 1 is marked in what is left of the window: -28, though two blocks are good and unlisted. The same call again is accepted.
-freed : (grown (from 2 2 []) .code ≡ negsuc 27) × (goodFree 128 2 good (from 2 2 []) ≡ 2) × (goodUsable 128 2 good (from 2 2 []) ≡ 1)
+freed : (grown (from 2 2 []) .code ≡ negsuc 27) × (goodFree pair (from 2 2 []) ≡ 2) × (goodUsable pair (from 2 2 []) ≡ 1)
     × (grown (grown (from 2 2 []) .state) .code ≡ pos 0)
-unfolding grown after storeTruncate truncateFile puts putOf wanted starts looked firstHead writeOf grownOf filledOf fronted growOf spoils linkOf pointersOf part wiped stored windowAlloc allocOf allocBy takeOf freeFrom skip scanOf cleared markAll markMap seenIn seenAll visitOf visit goodCard healthOk eachValid lookaheadFits validOf findOf searchOf tableOk filesOk entryOk headOk walkTo walk pointer wordAt bytes32 pointers capacity start indexAt offsetAt trailingZeros leadingZeros listedIn listedOf usedFor has tally
+unfolding grown after storeTruncate atFile testedOf truncateAt putOn wanted starts looked firstHead writeBy followed turnOf tried takenBy trialOf then growth links tail ahead series done programs wiped stored allocOf allocBy takeOf skip scanOf cleared markAll markMap seenIn seenAll visitOf visit hand goodCard healthOk eachValid lookaheadFits validOf findOf searchOf tableOk filesOk entryOk headOk walkTo walk pointer wordAt bytes32 pointers capacity start indexAt offsetAt trailingZeros leadingZeros listedIn listedOf usedFor has tally
 freed = (refl, refl, refl, refl)
 
 -- WHY `Apart` IS ASKED. Block 0 is what is left of the window, not marked there but read by the visit of file 1. It is filled with zeros, so the scan is told
 -- of block 0 alone: block 1 is handed out too, and the call is accepted, though only block 0 is usable as the call begins.
-read-and-lost : (grown (from 0 1 two) .code ≡ pos 0) × (goodUsable 128 2 good (from 0 1 two) ≡ 1)
-    × (has (readBy 128 2 card two) 0 ≡ true) × (usedIn 128 2 (from 0 1 two) 0 ≡ false)
-unfolding grown after storeTruncate truncateFile puts putOf wanted starts looked firstHead writeOf grownOf filledOf fronted growOf spoils linkOf pointersOf part wiped stored windowAlloc allocOf allocBy takeOf freeFrom skip scanOf cleared markAll markMap seenIn seenAll visitOf visit goodCard healthOk eachValid lookaheadFits validOf findOf searchOf tableOk filesOk entryOk headOk walkTo walk pointer wordAt bytes32 pointers capacity start indexAt offsetAt trailingZeros leadingZeros listedIn listedOf usedFor has tally readBy
+read-and-lost : (grown (from 0 1 two) .code ≡ pos 0) × (goodUsable pair (from 0 1 two) ≡ 1)
+    × (has (readBy pair card two) 0 ≡ true) × (usedIn pair (from 0 1 two) 0 ≡ false)
+unfolding grown after storeTruncate atFile testedOf truncateAt putOn wanted starts looked firstHead writeBy followed turnOf tried takenBy trialOf then growth links tail ahead series done programs wiped stored allocOf allocBy takeOf skip scanOf cleared markAll markMap seenIn seenAll visitOf visit hand goodCard healthOk eachValid lookaheadFits validOf findOf searchOf tableOk filesOk entryOk headOk walkTo walk pointer wordAt bytes32 pointers capacity start indexAt offsetAt trailingZeros leadingZeros listedIn listedOf usedFor has tally readBy
 read-and-lost = (refl, refl, refl, refl)

@@ -12,14 +12,14 @@ use Rattle.files.specs.declared.Entry.{Entry}
 use Rattle.files.specs.declared.Table.{Table}
 use Rattle.files.specs.declared.Found.{Found}
 use Rattle.files.specs.declared.Found.the-variants as found
-use Rattle.files.specs.Table.{noEntry, held, file, tableOk}
-use Rattle.files.specs.Find.{searchOf, findOf}
+use Rattle.files.specs.Table.{noEntry, held, file, tableOk, searchOf, findOf}
 use Rattle.files.proofs.Tests.{eqb-cases, leb-cases}
 use Rattle.files.proofs.Searches.{search-answers}
 use Rattle.files.proofs.Cases.{find-no-number, find-is, found-at}
-use Rattle.demands.specs.Plain.{PlainFile, holds, onFile}
+use Rattle.demands.specs.Plain.{PlainFile, hasFile, Met, refused, met, meets}
 use Rattle.demands.proofs.Again.{AtPlace, first as first-place, next as next-place}
-use Rattle.layout.specs.Numbers.{numberMax}
+use Rattle.layout.specs.Numbers.{numberMax, sizeMax}
+use Rattle.reading.specs.inner.Bounds.{filePosition}
 
 -- e is the first file of that number, at place m
 pub data Placed (number : ℕ) (e : Entry) : ℕ → List Entry → Type 0 where
@@ -36,12 +36,12 @@ placed-at (first _) = first-place
 placed-at (next _ p) = next-place (placed-at p)
 
 -- what a search answers
-pub searched-at : (number i j : ℕ) (es : List Entry) → searchOf i number es ≡ found.At j → (i ≤ j) × Placed number (getD es (j - i) noEntry) (j - i) es
+pub searched-at : (number i j : ℕ) (es : List Entry) → searchOf number es i ≡ found.At j → (i ≤ j) × Placed number (getD es (j - i) noEntry) (j - i) es
 unfolding searchOf
 searched-at number i j [] q = let z : _≡_ {A = ℕ} 0 1 = cc in absurd (omega arith)
 searched-at number i j (e ∷ es) q =
     eqb-cases (e .number) number
-    (λ b. (elim b [ true ↦ found.At i | false ↦ searchOf (suc i) number es ]) ≡ found.At j
+    (λ b. (elim b [ true ↦ found.At i | false ↦ searchOf number es (suc i) ]) ≡ found.At j
     → (i ≤ j) × Placed number (getD (e ∷ es) (j - i) noEntry) (j - i) (e ∷ es))
     (λ p h.
     let z : i ≡ j = cc in
@@ -53,12 +53,12 @@ searched-at number i j (e ∷ es) q =
     (omega (arith, r .0), subst (λ (k : ℕ). Placed number (getD (e ∷ es) k noEntry) k (e ∷ es)) d (next p (r .1))))
     q
 
-pub searched-missing : (number i : ℕ) (es : List Entry) → searchOf i number es ≡ found.Missing → Unnamed number es
+pub searched-missing : (number i : ℕ) (es : List Entry) → searchOf number es i ≡ found.Missing → Unnamed number es
 unfolding searchOf
 searched-missing number i [] q = none
 searched-missing number i (e ∷ es) q =
     eqb-cases (e .number) number
-    (λ b. (elim b [ true ↦ found.At i | false ↦ searchOf (suc i) number es ]) ≡ found.Missing → Unnamed number (e ∷ es))
+    (λ b. (elim b [ true ↦ found.At i | false ↦ searchOf number es (suc i) ]) ≡ found.Missing → Unnamed number (e ∷ es))
     (λ p h. let z : _≡_ {A = ℕ} 0 1 = cc in absurd (omega arith))
     (λ p h. one p (searched-missing number (suc i) es h))
     q
@@ -75,7 +75,7 @@ find-view t number ok = leb-cases number numberMax (λ b. FindView t number (fin
     outside : numberMax < number → FindView t number (findOf t number)
     outside h = subst (FindView t number) (sym (find-no-number t number ok h)) (high h)
 
-    by : number ≤ numberMax → (r : Found) → searchOf 0 number (held t) ≡ r → FindView t number r
+    by : number ≤ numberMax → (r : Found) → searchOf number (held t) 0 ≡ r → FindView t number r
     by h found.Refused q = absurd (search-answers 0 number (held t) q)
     by h found.Missing q = missing h (searched-missing number 0 (held t) q)
     by h (found.At i) q =
@@ -85,16 +85,23 @@ find-view t number ok = leb-cases number numberMax (λ b. FindView t number (fin
         at i h b (subst (λ (e : Entry). Placed number e i (held t)) (getD-take (t .count) (t .files) i noEntry b) p′)
 
     inside : number ≤ numberMax → FindView t number (findOf t number)
-    inside h = subst (FindView t number) (sym (find-is t number ok h)) (by h (searchOf 0 number (held t)) refl)
+    inside h = subst (FindView t number) (sym (find-is t number ok h)) (by h (searchOf number (held t) 0) refl)
 
--- the file number, among plain files
+-- ---- what a call meets among plain files
 
-module _ {A : Type 0} (number : ℕ) (fs : List PlainFile) (big none some : A) where
-  pub number-high : numberMax < number → onFile number fs big none some ≡ big
-  number-high h = rw (onFile, lt-leb number numberMax h)
+module _ (number p : ℕ) (fs : List PlainFile) where
+  pub meets-high : numberMax < number → meets (filePosition number p) fs ≡ refused
+  unfolding meets
+  meets-high h = rw (meets, lt-leb number numberMax h)
 
-  pub number-none : number ≤ numberMax → holds number fs ≡ false → onFile number fs big none some ≡ none
-  number-none h q = rw (onFile, le-leb number numberMax h, q)
+  pub meets-none : number ≤ numberMax → hasFile number fs ≡ false → meets (filePosition number p) fs ≡ Met.missing
+  unfolding meets
+  meets-none h q = rw (meets, le-leb number numberMax h, q)
 
-  pub number-some : number ≤ numberMax → holds number fs ≡ true → onFile number fs big none some ≡ some
-  number-some h q = rw (onFile, le-leb number numberMax h, q)
+  pub meets-far : number ≤ numberMax → hasFile number fs ≡ true → sizeMax < p → meets (filePosition number p) fs ≡ refused
+  unfolding meets
+  meets-far h q f = rw (meets, le-leb number numberMax h, q, lt-leb p sizeMax f)
+
+  pub meets-file : number ≤ numberMax → hasFile number fs ≡ true → p ≤ sizeMax → meets (filePosition number p) fs ≡ met
+  unfolding meets
+  meets-file h q n = rw (meets, le-leb number numberMax h, q, le-leb p sizeMax n)

@@ -1,11 +1,10 @@
--- Each store call on sound lists, with a window that is valid and clean for them. Assumes nothing.
+-- Create and remove on sound lists, with a window that is valid and clean for them; and plain files that are resized. Assumes nothing.
 use mathlib.Core.Path.{_≡_, refl, sym, ap, _∙_, subst}
 use mathlib.Core.Bool.{Bool, true}
-use mathlib.Core.List.{List, [], _∷_, _++_, append-nil}
+use mathlib.Core.List.{List, [], _++_, append-nil}
 use Prim.Native.Nat.{ℕ, _-_, _≤_, _<_}
 use native.Mathlib.Omega.{arith}
 use borrow.Author.Tests.{lt-leb, le-leb}
-use lib.IntN.{pos, negsuc}
 use lib.ListN.{length, take, length-append, length-map, length-replicate}
 use lib.Seq.{take-length}
 use Rattle.files.specs.declared.Entry.{Entry}
@@ -13,8 +12,7 @@ use Rattle.files.specs.declared.Table.{Table}
 use Rattle.files.specs.declared.Found.{Found}
 use Rattle.files.specs.declared.Found.the-variants as found
 use Rattle.files.specs.declared.change.Changed.{Changed}
-use Rattle.files.specs.Table.{held, tableOf, tableOk}
-use Rattle.files.specs.Find.{findOf}
+use Rattle.files.specs.Table.{held, tableOf, tableOk, findOf}
 use Rattle.files.specs.Change.{createOf, removeOf, insertOf, withoutOf}
 use Rattle.files.proofs.Laws.{held-length}
 use Rattle.files.proofs.Lists.{held-of}
@@ -23,25 +21,17 @@ use Rattle.files.proofs.Kept.{create-ok, remove-ok}
 use Rattle.files.proofs.Tests.{ltb-cases}
 use Rattle.plain.specs.Bytes.{bytes, span}
 use Rattle.store.specs.Write.{zeros}
-use Rattle.writes.specs.Plain.{plainWrite}
-use Rattle.demands.specs.Calls.{State, create, remove, changedIn}
-use Rattle.demands.specs.Plain.{PlainFile, unless, wrote, resized}
+use Rattle.demands.specs.Calls.{create, remove, changedIn}
+use Rattle.demands.specs.Plain.{PlainFile, plainCode, resized}
 use Rattle.demands.specs.Runs.{fileIn, filesIn}
 use Rattle.demands.proofs.Changes.{create-keeps, remove-keeps}
-use Rattle.demands.proofs.Named.{Unnamed, FindView, high, missing, at, find-view, number-high, number-none, number-some}
+use Rattle.demands.proofs.Named.{Unnamed, FindView, high, missing, at, find-view, meets-high, meets-none, meets-file}
 use Rattle.demands.proofs.Contents as contents
 use Rattle.demands.proofs.Kept.{Held, before, again}
 use Rattle.demands.proofs.Ends.{Ends, accepted, refused}
 use Rattle.layout.specs.Numbers.{filesMax}
-
--- a write of at least one byte to a plain file
-pub wrote-some : (p : ℕ) (src bs : List ℕ) → (length src ≡ 0 → ⊥) → plainWrite bs p src ≡ wrote p src bs
-wrote-some p [] bs n = absurd (n refl)
-wrote-some p (x ∷ src) bs n = refl
-
-pub wrote-none : (p : ℕ) (src bs : List ℕ) → length src ≡ 0 → wrote p src bs ≡ bs
-wrote-none p [] bs n = refl
-wrote-none p (x ∷ src) bs n = absurd (omega arith)
+use Rattle.grow.specs.Setting.{State}
+use Rattle.layout.specs.inner.Served.{blockList}
 
 -- a truncate of a plain file: cut, as it was, or zeros behind it
 pub resized-less : (size : ℕ) (bs : List ℕ) → size ≤ length bs → take size bs ≡ resized size bs
@@ -55,7 +45,7 @@ resized-more size bs h =
     let n : length all ≡ size = length-append bs (zeros (size - length bs)) ∙ rw (length-replicate {A = ℕ} (size - length bs) 0) (omega arith) in
     sym (ap (λ (k : ℕ). take k all) (sym n) ∙ take-length all)
 
-pub empty-bytes : (img : List ℕ) (B head : ℕ) → bytes img B head 0 ≡ []
+pub empty-bytes : (img : List ℕ) (B head : ℕ) → bytes B img (blockList head 0) ≡ []
 unfolding bytes span
 empty-bytes img B head = refl
 
@@ -88,8 +78,7 @@ module _ {B N l : ℕ} {s : State} (h : Held B N l s) (number : ℕ) where
           → Ends B N l fits (create number) s (changedIn s (createOf t number))
       new q a u c =
           by (sym (cases.create-accepted t number (findOf t number) refl q c)) (accepted refl
-          (number-none number fs _ _ _ a (contents.unnamed-holds B (s .image) u)
-          ∙ ap (λ (b : Bool). unless b (negsuc 11) (pos 0)) (lt-leb filesMax (length fs) (omega (arith, files-count))))
+          (rw (plainCode, meets-none number 0 fs a (contents.unnamed-holds B (s .image) u), lt-leb filesMax (length fs) (omega (arith, files-count))))
           (rw (held-of more) (contents.create-files B (s .image) number (held t)))
           (record {
             kept = λ e n x. rw (held-of more) (contents.insert-kept number e (held t) x);
@@ -103,15 +92,14 @@ module _ {B N l : ℕ} {s : State} (h : Held B N l s) (number : ℕ) where
           → Ends B N l fits (create number) s (changedIn s (createOf t number))
       full q a u c =
           by (cases.create-full t number (findOf t number) refl q c) (refused 11 (omega arith) refl
-          (number-none number fs _ _ _ a (contents.unnamed-holds B (s .image) u)
-          ∙ ap (λ (b : Bool). unless b (negsuc 11) (pos 0)) (le-leb filesMax (length fs) (omega (arith, files-count)))) refl)
+          (rw (plainCode, meets-none number 0 fs a (contents.unnamed-holds B (s .image) u), le-leb filesMax (length fs) (omega (arith, files-count)))) refl)
 
       go : {r : Found} → FindView t number r → findOf t number ≡ r → Ends B N l fits (create number) s (changedIn s (createOf t number))
       go (high k) q =
-          by (cases.create-refused t number (findOf t number) refl q) (refused 21 (omega arith) refl (number-high number fs _ _ _ k) refl)
+          by (cases.create-refused t number (findOf t number) refl q) (refused 21 (omega arith) refl (rw (plainCode, meets-high number 0 fs k)) refl)
       go (at i a b p) q =
           by (cases.create-exists t number (findOf t number) refl i q)
-          (refused 16 (omega arith) refl (number-some number fs _ _ _ a (contents.placed-holds B (s .image) p)) refl)
+          (refused 16 (omega arith) refl (rw (plainCode, meets-file number 0 fs a (contents.placed-holds B (s .image) p) (omega arith))) refl)
       go (missing a u) q =
           ltb-cases (t .count) filesMax (λ b. Ends B N l fits (create number) s (changedIn s (createOf t number))) (new q a u) (full q a u)
 
@@ -129,12 +117,12 @@ module _ {B N l : ℕ} {s : State} (h : Held B N l s) (number : ℕ) where
 
       go : {r : Found} → FindView t number r → findOf t number ≡ r → Ends B N l fits (remove number) s (changedIn s (removeOf t number))
       go (high k) q =
-          by (cases.remove-refused t number (findOf t number) refl q) (refused 21 (omega arith) refl (number-high number fs _ _ _ k) refl)
+          by (cases.remove-refused t number (findOf t number) refl q) (refused 21 (omega arith) refl (rw (meets-high number 0 fs k)) refl)
       go (missing a u) q =
           by (cases.remove-missing t number (findOf t number) refl q)
-          (refused 1 (omega arith) refl (number-none number fs _ _ _ a (contents.unnamed-holds B (s .image) u)) refl)
+          (refused 1 (omega arith) refl (rw (meets-none number 0 fs a (contents.unnamed-holds B (s .image) u))) refl)
       go (at i a b p) q =
-          by (sym (cases.remove-accepted t number (findOf t number) refl i q)) (accepted refl (number-some number fs _ _ _ a (contents.placed-holds B (s .image) p))
+          by (sym (cases.remove-accepted t number (findOf t number) refl i q)) (accepted refl (rw (meets-file number 0 fs a (contents.placed-holds B (s .image) p) (omega arith)))
           (rw (held-of rest) (contents.remove-files B (s .image) number (held t)))
           (record {
             kept = λ e n x. rw (held-of rest) (contents.without-kept number e (held t) n x);

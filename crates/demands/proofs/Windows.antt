@@ -1,35 +1,36 @@
 -- The window is an allocator in the sense of the write's theory, as long as the visits hand over what is listed. Assumes nothing.
-use mathlib.Core.Path.{_≡_, refl, sym, ap, _∙_, subst}
+use mathlib.Core.Path.{_≡_, refl, sym, ap, ap₂, _∙_, subst}
 use mathlib.Core.Logic.{_⊎_, inl, inr}
-use mathlib.Core.Bool.{Bool, true, false}
+use mathlib.Core.Bool.{Bool, true, false, not, _&&_}
 use mathlib.Core.List.{List, [], _∷_}
 use Prim.Native.Nat.{ℕ, _+_, _-_, _%_, _≤_, _<_}
 use native.Mathlib.Nat.{mod-lt}
 use native.Mathlib.Omega.{arith}
 use lib.ListN.{length}
-use Rattle.card.specs.Card.{Card}
 use Rattle.device.specs.Device.{refusesErase, refusesProgram}
 use Rattle.files.specs.declared.Table.{Table}
-use Rattle.grow.specs.Supply.{Took, Block, None, Bad}
-use Rattle.grow.specs.Extend.{tookOf, windowAlloc}
+use Rattle.grow.specs.Extend.{tookOf}
 use Rattle.window.specs.declared.Lookahead.{Lookahead}
 use Rattle.window.specs.declared.Answer.{Answer}
 use Rattle.window.specs.declared.Answer.the-variants as answer
 use Rattle.window.specs.Allocate.{allocOf}
 use Rattle.window.specs.Scan.{Seen}
-use Rattle.window.specs.Value.{Sizes, Valid}
 use Rattle.window.proofs.Cases.{no-both}
-use Rattle.windows.specs.Call.{Claim, cleanly, On, Handed, View, handed, full, bad, Result, Lists, Shows, During, New, isBlock}
-use Rattle.windows.specs.Space.{Knows, unusedFrom, goodIn, bit}
+use Rattle.windows.proofs.Views.{Claim, cleanly, exactly, On, Handed, View, handed, full, bad, Result, Lists, Shows, During, New, isBlock}
+use Rattle.windows.proofs.Asking.{Knows, unusedFrom, goodIn, bit}
 use Rattle.windows.proofs.Has.{has-head, has-tail}
 use Rattle.windows.proofs.Alloc.{alloc-view, none-after}
 use Rattle.windows.proofs.InCall as incall
 use Rattle.windows.proofs.Exact.{view, handed-first, full-none, good-nil, good-cons}
 use Rattle.windows.proofs.Listed.{lists-tells}
-use Rattle.writes.specs.Allocator.{In, Known, Stays, bump, Taken, Allocator, Drawn, Counter}
 use Rattle.alloc.specs.Visits.{seenIn}
-use Rattle.demands.specs.Space.{goodOf, goodBlock}
+use Rattle.demands.specs.Space.{goodBlock}
 use Rattle.span.specs.Members.{has}
+use Rattle.writes.proofs.Allocators.{In, Standing, Stays, Allotted, Allocator, Drawn, Counter}
+use Rattle.trials.specs.Loop.{Took, Block, None, Bad}
+use Rattle.grow.specs.inner.Extend.{windowAlloc}
+use Rattle.card.specs.inner.Cards.{CardFacts, cardWith}
+use Rattle.window.specs.inner.Facts.{ValidWindow, GoodScope, scope}
 
 -- ---- what an answer tells
 
@@ -81,13 +82,8 @@ in-has k [] u = absurd u
 in-has k (x ∷ xs) (inl e) = subst (λ (z : ℕ). has (x ∷ xs) z ≡ true) e (has-head x xs)
 in-has k (x ∷ xs) (inr u) = has-tail x xs k (in-has k xs u)
 
-bump-is : (health : List ℕ) (k n : ℕ) → bump (refusesErase health k) (refusesProgram health k) n ≡ bit (goodBlock health k) + n
-bump-is health k n = go (refusesErase health k) (refusesProgram health k)
-  where
-    go : (s t : Bool) → bump s t n ≡ bit (goodOf s t) + n
-    go true t = omega arith
-    go false true = omega arith
-    go false false = omega arith
+good-is : (health : List ℕ) (k : ℕ) (s t : Bool) → refusesErase health k ≡ s → refusesProgram health k ≡ t → goodBlock health k ≡ (not s && not t)
+good-is health k s t q y = ap₂ (λ (a b : Bool). not a && not b) q y
 
 -- ---- the allocator
 
@@ -99,22 +95,22 @@ Listed listed k = has listed k ≡ true
 pub record InCall (B n l : ℕ) (listed img₀ : List ℕ) (base : ℕ) (w : Lookahead) (out img : List ℕ) : Type 0 where
   pub during : During n l listed w out
   pub on : On base n w
-  pub card : Card B n (length img)
+  pub card : CardFacts B n (length img)
   pub stays : Stays B (Listed listed) img₀ img
 
 -- what a scan is told
 abbrev see : ℕ → ℕ → Table → List ℕ → Seen
-see B n t img = seenIn B n img t
+see B n t img = seenIn (cardWith B n img) t
 
 took : (B n l : ℕ) (t : Table) (w : Lookahead) (img : List ℕ) (r : Took Lookahead) → windowAlloc B n l t w img ≡ r
-    → tookOf (allocOf n l (see B n t img) w .answer) (allocOf n l (see B n t img) w .window) ≡ r
+    → tookOf (allocOf (scope n l) (see B n t img) w .answer) (allocOf (scope n l) (see B n t img) w .window) ≡ r
 unfolding windowAlloc
 took B n l t w img r e = e
 
-module _ (B n l : ℕ) (listed : List ℕ) (t : Table) (z : Sizes n l) (img₀ : List ℕ) (base : ℕ)
-    (told : (img : List ℕ) → Card B n (length img) → Stays B (Listed listed) img₀ img → Lists n listed (seenIn B n img t)) where
+module _ (B n l : ℕ) (listed : List ℕ) (t : Table) (z : GoodScope n l) (img₀ : List ℕ) (base : ℕ)
+    (told : (img : List ℕ) → CardFacts B n (length img) → Stays B (Listed listed) img₀ img → Lists n listed (seenIn (cardWith B n img) t)) where
   result : (w : Lookahead) (out img : List ℕ) → InCall B n l listed img₀ base w out img
-      → Result (cleanly listed) base n l (see B n t img .ok) (w .ckpoint) (allocOf n l (see B n t img) w)
+      → Result (cleanly listed) base n l (see B n t img .ok) (w .ckpoint) (allocOf (scope n l) (see B n t img) w)
   result w out img o =
       let tl = lists-tells (told img (o .card) (o .stays)) in
       alloc-view (cleanly listed) base n l (see B n t img) z (tl .low) (λ ok b e. tl .cover ok b e) w (o .during .valid) (o .during .clean) (o .on)
@@ -123,15 +119,15 @@ module _ (B n l : ℕ) (listed : List ℕ) (t : Table) (z : Sizes n l) (img₀ :
   pub windowed : Allocator B n (λ (w : Lookahead). w .ckpoint) (windowAlloc B n l t) (Listed listed) (InCall B n l listed img₀ base)
   windowed = record { taken = taken; none = none; never = never; frame = frame }
     where
-      frame : (w : Lookahead) (out img img′ : List ℕ) → InCall B n l listed img₀ base w out img → Card B n (length img′)
+      frame : (w : Lookahead) (out img img′ : List ℕ) → InCall B n l listed img₀ base w out img → CardFacts B n (length img′)
           → Stays B (Listed listed) img img′ → InCall B n l listed img₀ base w out img′
       frame w out img img′ o c s = record { during = o .during; on = o .on; card = c; stays = λ k p u h. s k p u h ∙ o .stays k p u h }
 
       taken : (w w′ : Lookahead) (out img : List ℕ) (k : ℕ) → InCall B n l listed img₀ base w out img → windowAlloc B n l t w img ≡ Block k w′
-          → Taken n (λ (w : Lookahead). w .ckpoint) (Listed listed) (InCall B n l listed img₀ base)
+          → Allotted n (λ (w : Lookahead). w .ckpoint) (Listed listed) (InCall B n l listed img₀ base)
           w w′ out img k
       taken w w′ out img k o e =
-          let a = took-block (allocOf n l (see B n t img) w .answer) (allocOf n l (see B n t img) w .window) w′ k (took B n l t w img _ e) in
+          let a = took-block (allocOf (scope n l) (see B n t img) w .answer) (allocOf (scope n l) (see B n t img) w .window) w′ k (took B n l t w img _ e) in
           let tl = lists-tells (told img (o .card) (o .stays)) in
           let nw = incall.new-block n l listed (see B n t img) z tl k (o .during) (a .0) in
           let v = view-block k (result w out img o .view) (a .0) in
@@ -142,14 +138,14 @@ module _ (B n l : ℕ) (listed : List ℕ) (t : Table) (z : Sizes n l) (img₀ :
             fewer = omega (arith, v .0 .from, v .0 .below);
           })
         where
-          other : New n listed out k → (k′ : ℕ) → Known (Listed listed) out k′ → k ≡ k′ → ⊥
+          other : New n listed out k → (k′ : ℕ) → Standing (Listed listed) out k′ → k ≡ k′ → ⊥
           other nw k′ (inl u) q = no-both (has listed k′) u (subst (λ (x : ℕ). has listed x ≡ false) q (nw .unlisted))
           other nw k′ (inr u) q = no-both (has out k′) (in-has k′ out u) (subst (λ (x : ℕ). has out x ≡ false) q (nw .other))
 
       none : (w w′ : Lookahead) (out img : List ℕ) → InCall B n l listed img₀ base w out img → windowAlloc B n l t w img ≡ None w′
           → InCall B n l listed img₀ base w′ out img
       none w w′ out img o e =
-          let a = took-none (allocOf n l (see B n t img) w .answer) (allocOf n l (see B n t img) w .window) w′ (took B n l t w img _ e) in
+          let a = took-none (allocOf (scope n l) (see B n t img) w .answer) (allocOf (scope n l) (see B n t img) w .window) w′ (took B n l t w img _ e) in
           let tl = lists-tells (told img (o .card) (o .stays)) in
           let v = view-none (result w out img o .view) (a .0) in
           subst (λ (u : Lookahead). InCall B n l listed img₀ base u out img) (a .1)
@@ -158,7 +154,7 @@ module _ (B n l : ℕ) (listed : List ℕ) (t : Table) (z : Sizes n l) (img₀ :
       never : (w w′ : Lookahead) (out img : List ℕ) → InCall B n l listed img₀ base w out img → windowAlloc B n l t w img ≡ Bad w′ → ⊥
       never w w′ out img o e =
           no-both (see B n t img .ok) (told img (o .card) (o .stays) .ok)
-          (view-bad (result w out img o .view) (took-bad (allocOf n l (see B n t img) w .answer) (allocOf n l (see B n t img) w .window) w′ (took B n l t w img _ e)))
+          (view-bad (result w out img o .view) (took-bad (allocOf (scope n l) (see B n t img) w .answer) (allocOf (scope n l) (see B n t img) w .window) w′ (took B n l t w img _ e)))
 
 -- ---- the count, from any window
 
@@ -169,7 +165,7 @@ Used used k = used k ≡ true
 -- within a call that began on the image img₀: what the window knows, and that the used blocks stand
 pub record Knowing (B n l : ℕ) (listed : List ℕ) (used : ℕ → Bool) (img₀ : List ℕ) (base : ℕ) (w : Lookahead) (img : List ℕ) : Type 0 where
   pub knows : Knows n l listed used base w
-  pub card : Card B n (length img)
+  pub card : CardFacts B n (length img)
   pub stays : Stays B (Used used) img₀ img
 
 -- the good blocks that are yet to come
@@ -178,12 +174,12 @@ goodsLeft health n used base w = goodIn (goodBlock health) (unusedFrom base n us
 
 -- what -28 leaves
 pub record UsedUp (B n l : ℕ) (w : Lookahead) (img : List ℕ) : Type 0 where
-  pub valid : Valid w n l
+  pub valid : ValidWindow w n l
   pub none-left : w .size ≤ w .next
-  pub card : Card B n (length img)
+  pub card : CardFacts B n (length img)
 
-module _ (B n l : ℕ) (health listed : List ℕ) (used : ℕ → Bool) (t : Table) (z : Sizes n l) (img₀ : List ℕ) (base : ℕ)
-    (told : (img : List ℕ) → Card B n (length img) → Stays B (Used used) img₀ img → Shows n listed (seenIn B n img t)) where
+module _ (B n l : ℕ) (health listed : List ℕ) (used : ℕ → Bool) (t : Table) (z : GoodScope n l) (img₀ : List ℕ) (base : ℕ)
+    (told : (img : List ℕ) → CardFacts B n (length img) → Stays B (Used used) img₀ img → Shows n listed (seenIn (cardWith B n img) t)) where
   -- The window keeps the laws of a count: it hands out exactly the blocks that are not used.
   pub counter : Counter B n health (λ (w : Lookahead). w .ckpoint) (windowAlloc B n l t) (Used used) (Knowing B n l listed used img₀ base)
       (goodsLeft health n used base) (UsedUp B n l)
@@ -192,7 +188,7 @@ module _ (B n l : ℕ) (health listed : List ℕ) (used : ℕ → Bool) (t : Tab
       taken : (w w′ : Lookahead) (img : List ℕ) (k : ℕ) → Knowing B n l listed used img₀ base w img → windowAlloc B n l t w img ≡ Block k w′
           → Drawn n health (λ (w : Lookahead). w .ckpoint) (Used used) (Knowing B n l listed used img₀ base) (goodsLeft health n used base) w w′ img k
       taken w w′ img k o e =
-          let a = took-block (allocOf n l (see B n t img) w .answer) (allocOf n l (see B n t img) w .window) w′ k (took B n l t w img _ e) in
+          let a = took-block (allocOf (scope n l) (see B n t img) w .answer) (allocOf (scope n l) (see B n t img) w .window) w′ k (took B n l t w img _ e) in
           let r = view n l listed used (see B n t img) z (told img (o .card) (o .stays)) base w (o .knows) in
           let v = view-block k (r .0) (a .0) in
           rw (← (a .1)) (record {
@@ -200,15 +196,19 @@ module _ (B n l : ℕ) (health listed : List ℕ) (used : ℕ → Bool) (t : Tab
             new = λ k′ u q. no-both (used k′) u (subst (λ (x : ℕ). used x ≡ false) q (sym (v .0 .says)));
             ok = record { knows = r .1 (ap isBlock (a .0)) (v .1); card = o .card; stays = o .stays };
             fewer = omega (arith, v .0 .from, v .0 .below);
-            count =
-                ap (goodIn (goodBlock health)) (handed-first base n used (w .ckpoint) k (allocOf n l (see B n t img) w .window .ckpoint) (o .knows .valid .ck-le) (v .0))
-                ∙ good-cons (goodBlock health) k _ ∙ sym (bump-is health k _);
+            refused = λ q. omega (arith, count (v .0), ap bit (good-is health k true (refusesProgram health k) q refl));
+            spoilt = λ q y. omega (arith, count (v .0), ap bit (good-is health k false true q y));
+            good = λ q y. omega (arith, count (v .0), ap bit (good-is health k false false q y));
           })
+        where
+          count : {d : ℕ} → Handed (exactly used) base n (w .ckpoint) k d
+              → goodIn (goodBlock health) (unusedFrom base n used (w .ckpoint)) ≡ bit (goodBlock health k) + goodIn (goodBlock health) (unusedFrom base n used d)
+          count {d} h = ap (goodIn (goodBlock health)) (handed-first base n used (w .ckpoint) k d (o .knows .valid .ck-le) h) ∙ good-cons (goodBlock health) k _
 
       none : (w w′ : Lookahead) (img : List ℕ) → Knowing B n l listed used img₀ base w img → windowAlloc B n l t w img ≡ None w′
           → (goodsLeft health n used base w ≡ 0) × UsedUp B n l w′ img
       none w w′ img o e =
-          let a = took-none (allocOf n l (see B n t img) w .answer) (allocOf n l (see B n t img) w .window) w′ (took B n l t w img _ e) in
+          let a = took-none (allocOf (scope n l) (see B n t img) w .answer) (allocOf (scope n l) (see B n t img) w .window) w′ (took B n l t w img _ e) in
           let tl = told img (o .card) (o .stays) in
           let p = view-none (view n l listed used (see B n t img) z tl base w (o .knows) .0) (a .0) .0 in
           let q = none-after n l (see B n t img) z (tl .low) w (o .knows .valid) (a .0) in (

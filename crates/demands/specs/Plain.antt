@@ -3,12 +3,13 @@ use mathlib.Core.Bool.{Bool, true, false}
 use mathlib.Core.List.{List, [], _∷_, _++_}
 use Prim.Native.Nat.{ℕ, _+_, _-_}
 use lib.Dec.{ltb, leb, eqb}
-use lib.IntN.{ℤ, pos}
-use lib.ListN.{length, take}
-use Rattle.store.specs.Write.{zeros}
-use Rattle.writes.specs.Plain.{plainWrite}
-use Rattle.demands.specs.Calls.{Call, create, remove, write, truncate, look}
+use lib.IntN.{ℤ}
+use lib.ListN.{length, take, drop}
 use Rattle.layout.specs.Numbers.{filesMax, numberMax, sizeMax, accepted, file-exists, invalid, no-file, table-full, too-large}
+use Rattle.reading.specs.Calls.{FilePosition}
+use Rattle.store.specs.Asked.{WriteAsked}
+use Rattle.store.specs.Write.{zeros}
+use Rattle.demands.specs.Calls.{Call, create, remove, write, truncate, look}
 
 -- a plain file: its number and its bytes; a plain store is a list of them, numbers rising
 pub record PlainFile : Type 0 where
@@ -16,13 +17,13 @@ pub record PlainFile : Type 0 where
   pub bytes : List ℕ
 
 -- whether there is a file of that number, and its bytes
-unfoldable pub holds : ℕ → List PlainFile → Bool
-holds number [] = false
-holds number (f ∷ fs) = elim (eqb (f .number) number) [ true ↦ true | false ↦ holds number fs ]
+unfoldable pub hasFile : ℕ → List PlainFile → Bool
+hasFile number [] = false
+hasFile number (f ∷ fs) = elim (eqb (f .number) number) [ true ↦ true | false ↦ hasFile number fs ]
 
-unfoldable pub bytesOf : ℕ → List PlainFile → List ℕ
-bytesOf number [] = []
-bytesOf number (f ∷ fs) = elim (eqb (f .number) number) [ true ↦ f .bytes | false ↦ bytesOf number fs ]
+unfoldable pub fileBytes : ℕ → List PlainFile → List ℕ
+fileBytes number [] = []
+fileBytes number (f ∷ fs) = elim (eqb (f .number) number) [ true ↦ f .bytes | false ↦ fileBytes number fs ]
 
 -- an empty file put in, a file taken out, the bytes of a file changed
 unfoldable pub plainCreate : ℕ → List PlainFile → List PlainFile
@@ -35,54 +36,78 @@ plainRemove number [] = []
 plainRemove number (f ∷ fs) = elim (eqb (f .number) number) [ true ↦ fs | false ↦ f ∷ plainRemove number fs ]
 
 unfoldable pub plainChange : ℕ → (List ℕ → List ℕ) → List PlainFile → List PlainFile
-plainChange number g [] = []
-plainChange number g (f ∷ fs) =
+plainChange number change [] = []
+plainChange number change (f ∷ fs) =
     elim (eqb (f .number) number)
-    [ true ↦ record { number = f .number; bytes = g (f .bytes) } ∷ fs | false ↦ f ∷ plainChange number g fs ]
+    [ true ↦ record { number = f .number; bytes = change (f .bytes) } ∷ fs | false ↦ f ∷ plainChange number change fs ]
 
--- a write of no bytes changes nothing, also past the end; else zeros in the gap, the data, the old tail
-abbrev pub wrote : ℕ → List ℕ → List ℕ → List ℕ
-wrote p [] bytes = bytes
-wrote p (x ∷ src) bytes = plainWrite bytes p (x ∷ src)
+-- a write of at least one byte: "a gap is zeros" (none where the file reaches the position: `-` stops at 0), the written bytes, "the tail of the old file"
+abbrev pub overwrite : WriteAsked → List ℕ → List ℕ
+overwrite w old = take (w .position) (old ++ zeros (w .position - length old)) ++ (w .bytes ++ drop (w .position + length (w .bytes)) old)
+
+-- a write of no bytes changes nothing, also past the end
+abbrev pub plainWrite : WriteAsked → List ℕ → List ℕ
+plainWrite w old = elim (ltb 0 (length (w .bytes))) [ false ↦ old | true ↦ overwrite w old ]
 
 -- cut, or zeros behind it
 abbrev pub resized : ℕ → List ℕ → List ℕ
-resized size bytes = take size (bytes ++ zeros (size - length bytes))
+resized size old = take size (old ++ zeros (size - length old))
 
 -- an accepted call
 abbrev pub plainAfter : Call → List PlainFile → List PlainFile
 plainAfter (create number) fs = plainCreate number fs
 plainAfter (remove number) fs = plainRemove number fs
-plainAfter (write number p src) fs = plainChange number (wrote p src) fs
-plainAfter (truncate number size) fs = plainChange number (resized size) fs
+plainAfter (write w) fs = plainChange (w .number) (plainWrite w) fs
+plainAfter (truncate t) fs = plainChange (t .number) (resized (t .size)) fs
 plainAfter look fs = fs
 
 -- which calls ask for blocks, and so may find none: a write of at least one byte, a growing truncate
 abbrev pub grows : Call → List PlainFile → Bool
 grows (create number) fs = false
 grows (remove number) fs = false
-grows (write number p src) fs = ltb 0 (length src)
-grows (truncate number size) fs = ltb (length (bytesOf number fs)) size
+grows (write w) fs = ltb 0 (length (w .bytes))
+grows (truncate t) fs = ltb (length (fileBytes (t .number) fs)) (t .size)
 grows look fs = false
 
--- a file number above 65,535; no such file; a file
-abbrev pub onFile : {A : Type 0} → ℕ → List PlainFile → A → A → A → A
-onFile number fs high none some =
-    elim (leb number numberMax) [ false ↦ high | true ↦ elim (holds number fs) [ false ↦ none | true ↦ some ] ]
+-- what a call meets there: -22 for a file number above 65,535, -2 for no such file, -22 for a position (a truncate: a
+-- new size) above the largest size; or the file
+pub data Met : Type 0 where
+  refused : Met
+  missing : Met
+  met : Met
 
-abbrev pub unless : Bool → ℤ → ℤ → ℤ
-unless true refusal code = refusal
-unless false refusal code = code
+unfoldable pub meets : FilePosition → List PlainFile → Met
+meets place fs =
+    elim (leb (place .number) numberMax) [
+      | false ↦ refused
+      | true ↦ elim (hasFile (place .number) fs) [ false ↦ missing | true ↦ elim (leb (place .position) sizeMax) [ false ↦ refused | true ↦ met ] ]
+    ]
+
+-- the file alone
+abbrev pub meetsFile : ℕ → List PlainFile → Met
+meetsFile number fs = meets (record { number = number; position = 0 }) fs
+
+-- 01's number, where it is `code` if the call meets the file
+abbrev pub codeIf : Met → ℤ → ℤ
+codeIf refused code = invalid
+codeIf missing code = no-file
+codeIf met code = code
 
 -- 01's number for a call on plain files: -22, -2, -17, -12, -27, or 0. `fits`: health bytes and L are not refused.
 abbrev pub plainCode : Bool → Call → List PlainFile → ℤ
-plainCode fits (create number) fs = onFile number fs invalid (unless (leb filesMax (length fs)) table-full accepted) file-exists
-plainCode fits (remove number) fs = onFile number fs invalid no-file accepted
-plainCode fits (write number p src) fs =
+plainCode fits (create number) fs =
+    elim (meetsFile number fs) [
+      | refused ↦ invalid
+      | missing ↦ elim (leb filesMax (length fs)) [ true ↦ table-full | false ↦ accepted ]
+      | met ↦ file-exists
+    ]
+plainCode fits (remove number) fs = codeIf (meetsFile number fs) accepted
+plainCode fits (write w) fs =
     elim fits [
       | false ↦ invalid
-      | true ↦ onFile number fs invalid no-file (unless (ltb sizeMax p) invalid (unless (ltb sizeMax (p + length src)) too-large accepted))
+      | true ↦ codeIf (meets (record { number = w .number; position = w .position }) fs)
+          (elim (ltb sizeMax (w .position + length (w .bytes))) [ true ↦ too-large | false ↦ accepted ])
     ]
-plainCode fits (truncate number size) fs =
-    elim fits [ false ↦ invalid | true ↦ onFile number fs invalid no-file (unless (ltb sizeMax size) invalid accepted) ]
+plainCode fits (truncate t) fs =
+    elim fits [ false ↦ invalid | true ↦ codeIf (meets (record { number = t .number; position = t .size }) fs) accepted ]
 plainCode fits look fs = accepted

@@ -17,14 +17,18 @@ use Rattle.files.specs.declared.Found.the-variants as found
 use Rattle.files.specs.declared.Sized.the-variants as sized
 use Rattle.files.specs.declared.change.Change.the-variants as change
 use Rattle.files.specs.declared.position.Sought.the-variants as sought
-use Rattle.files.specs.Table.{noEntry, held, file, tableOf, tableOk}
-use Rattle.files.specs.Find.{searchOf, findOf, sizeOf}
-use Rattle.files.specs.Change.{emptyFile, placeOf, insertOf, withoutOf, changed, createOf, removeOf}
-use Rattle.files.specs.Seek.{whenceOf, seekOf}
+use Rattle.files.specs.Table.{noEntry, held, file, tableOf, tableOk, searchOf, findOf, sizeOf}
+use Rattle.files.specs.Change.{emptyFile, insertOf, withoutOf, changed, createOf, removeOf}
+use Rattle.files.specs.Seek.{Seek, whenceOf, seekOf}
 use Rattle.files.proofs.Tests.{bool-cases, leb-cases}
 use Rattle.files.proofs.Laws.{held-length, count-ok}
 use Rattle.files.proofs.Lists.{stands, insert-at}
 use Rattle.layout.specs.Numbers.{filesMax, numberMax, sizeMax}
+use Rattle.files.specs.inner.Facts.{slotFor}
+
+-- the words of a seek, one after the other
+abbrev pub seeking : ℕ → ℕ → ℤ → ℤ → Seek
+seeking number position offset whence = record { number = number; position = position; offset = offset; whence = whence }
 
 module _ (t : Table) (number : ℕ) where
   pub find-no-table : tableOk t ≡ false → findOf t number ≡ found.Refused
@@ -35,7 +39,7 @@ module _ (t : Table) (number : ℕ) where
   unfolding findOf
   find-no-number h l = rw (findOf, h, lt-leb number numberMax l)
 
-  pub find-is : tableOk t ≡ true → number ≤ numberMax → findOf t number ≡ searchOf 0 number (held t)
+  pub find-is : tableOk t ≡ true → number ≤ numberMax → findOf t number ≡ searchOf number (held t) 0
   unfolding findOf
   find-is h l = rw (findOf, h, le-leb number numberMax l)
 
@@ -43,15 +47,15 @@ module _ (t : Table) (number : ℕ) where
   pub record Searched (r : Found) : Type 0 where
     pub ok : tableOk t ≡ true
     pub number-le : number ≤ numberMax
-    pub searched : searchOf 0 number (held t) ≡ r
+    pub searched : searchOf number (held t) 0 ≡ r
 
   pub searched : (r : Found) → (r ≡ found.Refused → ⊥) → findOf t number ≡ r → Searched r
   unfolding findOf
   searched r some =
       bool-cases (tableOk t)
-      (λ b. (elim b [ false ↦ found.Refused | true ↦ elim (leb number numberMax) [ false ↦ found.Refused | true ↦ searchOf 0 number (held t) ] ]) ≡ r → Searched r)
+      (λ b. (elim b [ false ↦ found.Refused | true ↦ elim (leb number numberMax) [ false ↦ found.Refused | true ↦ searchOf number (held t) 0 ] ]) ≡ r → Searched r)
       (λ h. leb-cases number numberMax
-      (λ b. (elim b [ false ↦ found.Refused | true ↦ searchOf 0 number (held t) ]) ≡ r → Searched r)
+      (λ b. (elim b [ false ↦ found.Refused | true ↦ searchOf number (held t) 0 ]) ≡ r → Searched r)
       (λ l e. record { ok = h; number-le = l; searched = e })
       (λ l e. absurd (some (sym e))))
       (λ h e. absurd (some (sym e)))
@@ -117,7 +121,7 @@ module _ (t : Table) (number : ℕ) where
     create-accepted e h = rw (createOf, ← p, e, lt-ltb (t .count) filesMax h)
 
     -- put in at its place
-    pub create-done : (at : ℕ) (u : Table) → r ≡ found.Missing → t .count < filesMax → at ≡ placeOf number (held t)
+    pub create-done : (at : ℕ) (u : Table) → r ≡ found.Missing → t .count < filesMax → at ≡ slotFor number (held t)
         → u ≡ tableOf (take at (held t) ++ (emptyFile number ∷ drop at (held t))) → changed change.Done u ≡ createOf t number
     unfolding createOf
     create-done at u e h a q =
@@ -143,18 +147,18 @@ module _ (t : Table) (number : ℕ) where
     remove-refused e = rw (removeOf, ← p, e)
 
     module _ (position : ℕ) (offset whence : ℤ) where
-      pub seek-at : (i : ℕ) → r ≡ found.At i → position ≤ sizeMax → seekOf t number position offset whence ≡ whenceOf position (file t i .size) offset whence
+      pub seek-at : (i : ℕ) → r ≡ found.At i → position ≤ sizeMax → seekOf t (seeking number position offset whence) ≡ whenceOf (seeking number position offset whence) (file t i .size)
       unfolding seekOf
       seek-at i e h = rw (seekOf, ← p, e, le-leb position sizeMax h)
 
-      pub seek-far : (i : ℕ) → r ≡ found.At i → sizeMax < position → sought.Refused ≡ seekOf t number position offset whence
+      pub seek-far : (i : ℕ) → r ≡ found.At i → sizeMax < position → sought.Refused ≡ seekOf t (seeking number position offset whence)
       unfolding seekOf
       seek-far i e h = rw (seekOf, ← p, e, lt-leb position sizeMax h)
 
-      pub seek-missing : r ≡ found.Missing → sought.Missing ≡ seekOf t number position offset whence
+      pub seek-missing : r ≡ found.Missing → sought.Missing ≡ seekOf t (seeking number position offset whence)
       unfolding seekOf
       seek-missing e = rw (seekOf, ← p, e)
 
-      pub seek-refused : r ≡ found.Refused → sought.Refused ≡ seekOf t number position offset whence
+      pub seek-refused : r ≡ found.Refused → sought.Refused ≡ seekOf t (seeking number position offset whence)
       unfolding seekOf
       seek-refused e = rw (seekOf, ← p, e)

@@ -7,11 +7,11 @@ use Rattle.files.specs.declared.Entry.{Entry}
 use Rattle.files.specs.declared.Table.{Table}
 use Rattle.files.specs.declared.change.Change.the-variants as change
 use Rattle.files.specs.declared.position.Sought.the-variants as sought
-use Rattle.files.specs.Table.{headOk, entryOk, filesOk, tableOf, tableOk}
-use Rattle.files.specs.Find.{searchOf, findOf}
+use Rattle.files.specs.Table.{headOk, entryOk, filesOk, tableOf, tableOk, searchOf, findOf}
 use Rattle.files.specs.Change.{emptyFile, createOf}
 use Rattle.files.specs.Seek.{withinOf, whenceOf, seekOf}
 use Rattle.layout.specs.Numbers.{filesMax}
+use Rattle.files.proofs.Cases.{seeking}
 
 -- as many files as a table holds, numbers 0, 1, 2, ..
 unfoldable pub upwards : ℕ → ℕ → List Entry
@@ -39,22 +39,22 @@ no-number = refl
 abbrev pub one : Table
 one = tableOf (record { number = 3; size = 300; head = 7 } ∷ [])
 
-pub to-start : seekOf one 3 0 (negsuc 299) (pos 2) ≡ sought.At 0
+pub to-start : seekOf one (seeking 3 0 (negsuc 299) (pos 2)) ≡ sought.At 0
 unfolding seekOf whenceOf withinOf findOf searchOf tableOk filesOk entryOk headOk
 to-start = refl
 
-pub before-start : seekOf one 3 0 (negsuc 300) (pos 2) ≡ sought.Refused
+pub before-start : seekOf one (seeking 3 0 (negsuc 300) (pos 2)) ≡ sought.Refused
 unfolding seekOf whenceOf withinOf findOf searchOf tableOk filesOk entryOk headOk
 before-start = refl
 
-pub to-largest : seekOf one 3 0 (pos 2147483647) (pos 1) ≡ sought.At 2147483647
+pub to-largest : seekOf one (seeking 3 0 (pos 2147483647) (pos 1)) ≡ sought.At 2147483647
 unfolding seekOf whenceOf withinOf findOf searchOf tableOk filesOk entryOk headOk
 to-largest = refl
 
-pub past-largest : seekOf one 3 1 (pos 2147483647) (pos 1) ≡ sought.Refused
+pub past-largest : seekOf one (seeking 3 1 (pos 2147483647) (pos 1)) ≡ sought.Refused
 unfolding seekOf whenceOf withinOf findOf searchOf tableOk filesOk entryOk headOk
 past-largest = refl
 
-pub other-whence : seekOf one 3 41 (pos 1) (pos 7) ≡ sought.At 41
+pub other-whence : seekOf one (seeking 3 41 (pos 1) (pos 7)) ≡ sought.At 41
 unfolding seekOf whenceOf withinOf findOf searchOf tableOk filesOk entryOk headOk
 other-whence = refl

@@ -16,9 +16,8 @@ use Rattle.files.specs.declared.Sized.the-variants as sized
 use Rattle.files.specs.declared.change.Change.{Change}
 use Rattle.files.specs.declared.change.Change.the-variants as change
 use Rattle.files.specs.declared.change.Changed.{Changed}
-use Rattle.files.specs.Table.{noEntry, held, file, tableOf, tableOk}
-use Rattle.files.specs.Find.{findOf, sizeOf}
-use Rattle.files.specs.Change.{emptyFile, placeOf, insertOf, withoutOf, changed, createOf, removeOf}
+use Rattle.files.specs.Table.{noEntry, held, file, tableOf, tableOk, findOf, sizeOf}
+use Rattle.files.specs.Change.{emptyFile, insertOf, withoutOf, changed, createOf, removeOf}
 use Rattle.files.proofs.Tests.{leb-cases, ltb-cases}
 use Rattle.files.proofs.Laws.{held-length, held-ok, count-ok}
 use Rattle.files.proofs.Lists.{held-of, of-ok}
@@ -26,6 +25,7 @@ use Rattle.files.proofs.Cases
 use Rattle.files.proofs.Others.{fileOf, insert-other, insert-own, without-insert, insert-length, insert-ok, without-other, without-own, without-ok, without-length}
 use Rattle.files.proofs.Searches.{missing-none, found-some, search-insert, search-answers}
 use Rattle.layout.specs.Numbers.{filesMax, numberMax}
+use Rattle.files.specs.inner.Facts.{slotFor}
 
 -- ---- the answers of find, and the size by the file
 
@@ -163,9 +163,9 @@ remove-size-other t n m d =
 undo : (t : Table) (n : ℕ) → Created t n → removeOf (tableOf (insertOf n (held t))) n ≡ changed change.Done (tableOf (held t))
 undo t n c =
     let u : Table = tableOf (insertOf n (held t)) in
-    let e : findOf u n ≡ found.At (0 + placeOf n (held t))
+    let e : findOf u n ≡ found.At (0 + slotFor n (held t))
     = Cases.find-is u n (made-ok t n c) (c .number-le) ∙ rw (held-of (insertOf n (held t))) (search-insert 0 n (held t)) in
-    Cases.remove-accepted u n (findOf u n) refl (0 + placeOf n (held t)) e
+    Cases.remove-accepted u n (findOf u n) refl (0 + slotFor n (held t)) e
     ∙ ap (λ (l : List Entry). changed change.Done (tableOf l)) (ap (withoutOf n) (held-of (insertOf n (held t))) ∙ without-insert n (held t))
 
 pub create-remove : (t : Table) (n : ℕ) → createOf t n .answer ≡ change.Done → removeOf (createOf t n .table) n ≡ changed change.Done (tableOf (held t))

@@ -11,41 +11,42 @@ use lib.Dec.{leb, eqb}
 use borrow.Author.Tests.{leb-true, eqb-true, le-leb, lt-leb, eq-eqb, ne-eqb}
 use Rattle.files.specs.declared.Entry.{Entry}
 use Rattle.files.specs.declared.Table.{Table}
-use Rattle.files.specs.Table.{noEntry, held, file, headOk, entryOk, filesOk, tableOk, Valid}
+use Rattle.files.specs.Table.{noEntry, held, file, headOk, entryOk, filesOk, tableOk}
 use Rattle.files.proofs.Tests.{both-left, both-right, eqb-cases}
 use Rattle.layout.specs.Numbers.{filesMax, numberMax, sizeMax, nullBlock, headMax}
+use Rattle.files.specs.inner.Facts.{ValidTable}
 
 -- a file that can stand in a table, with a number from `least` on
-pub record Good (least : ℕ) (e : Entry) : Type 0 where
+pub record GoodEntry (least : ℕ) (e : Entry) : Type 0 where
   pub least-le : least ≤ e .number
   pub number-le : e .number ≤ numberMax
   pub size-le : e .size ≤ sizeMax
   pub head-null : e .size ≡ 0 → e .head ≡ nullBlock
   pub head-le : zero < e .size → e .head ≤ headMax
 
-head-null′ : (size head : ℕ) → headOk size head ≡ true → size ≡ 0 → head ≡ nullBlock
+head-null′ : (e : Entry) → headOk e ≡ true → e .size ≡ 0 → e .head ≡ nullBlock
 unfolding headOk
-head-null′ size head e z = eqb-true head nullBlock (rw (headOk, eq-eqb size 0 z) at e)
+head-null′ e h z = eqb-true (e .head) nullBlock (rw (headOk, eq-eqb (e .size) 0 z) at h)
 
-head-le′ : (size head : ℕ) → headOk size head ≡ true → zero < size → head ≤ headMax
+head-le′ : (e : Entry) → headOk e ≡ true → zero < e .size → e .head ≤ headMax
 unfolding headOk
-head-le′ size head e p = leb-true head headMax (rw (headOk, ne-eqb size 0 (λ z. omega arith)) at e)
+head-le′ e h p = leb-true (e .head) headMax (rw (headOk, ne-eqb (e .size) 0 (λ z. omega arith)) at h)
 
-pub entry-good : (least : ℕ) (e : Entry) → entryOk least e ≡ true → Good least e
+pub entry-good : (least : ℕ) (e : Entry) → entryOk least e ≡ true → GoodEntry least e
 unfolding entryOk
 entry-good least e h =
-    let h3 = both-left (leb least (e .number) && leb (e .number) numberMax && leb (e .size) sizeMax) (headOk (e .size) (e .head)) h in
+    let h3 = both-left (leb least (e .number) && leb (e .number) numberMax && leb (e .size) sizeMax) (headOk e) h in
     let h2 = both-left (leb least (e .number) && leb (e .number) numberMax) (leb (e .size) sizeMax) h3 in
-    let h4 = both-right (leb least (e .number) && leb (e .number) numberMax && leb (e .size) sizeMax) (headOk (e .size) (e .head)) h in
+    let h4 = both-right (leb least (e .number) && leb (e .number) numberMax && leb (e .size) sizeMax) (headOk e) h in
     record {
       least-le = leb-true least (e .number) (both-left (leb least (e .number)) (leb (e .number) numberMax) h2);
       number-le = leb-true (e .number) numberMax (both-right (leb least (e .number)) (leb (e .number) numberMax) h2);
       size-le = leb-true (e .size) sizeMax (both-right (leb least (e .number) && leb (e .number) numberMax) (leb (e .size) sizeMax) h3);
-      head-null = head-null′ (e .size) (e .head) h4;
-      head-le = head-le′ (e .size) (e .head) h4;
+      head-null = head-null′ e h4;
+      head-le = head-le′ e h4;
     }
 
-pub good-entry : (least : ℕ) (e : Entry) → Good least e → entryOk least e ≡ true
+pub good-entry : (least : ℕ) (e : Entry) → GoodEntry least e → entryOk least e ≡ true
 unfolding entryOk headOk
 good-entry least e g =
     rw (le-leb least (e .number) (g .least-le), le-leb (e .number) numberMax (g .number-le), le-leb (e .size) sizeMax (g .size-le))
@@ -54,20 +55,20 @@ good-entry least e g =
     (λ z. le-leb (e .head) headMax (g .head-le (omega arith))))
 
 -- where the earlier tests hold, the last one decides
-pub entry-last : (least : ℕ) (e : Entry) → least ≤ e .number → e .number ≤ numberMax → e .size ≤ sizeMax → headOk (e .size) (e .head) ≡ entryOk least e
+pub entry-last : (least : ℕ) (e : Entry) → least ≤ e .number → e .number ≤ numberMax → e .size ≤ sizeMax → headOk e ≡ entryOk least e
 unfolding entryOk
 entry-last least e a b c = rw (le-leb least (e .number) a, le-leb (e .number) numberMax b, le-leb (e .size) sizeMax c)
 
-pub head-empty : (size head : ℕ) → size ≡ 0 → eqb head nullBlock ≡ headOk size head
+pub head-empty : (e : Entry) → e .size ≡ 0 → eqb (e .head) nullBlock ≡ headOk e
 unfolding headOk
-head-empty size head z = rw (headOk, eq-eqb size 0 z)
+head-empty e z = rw (headOk, eq-eqb (e .size) 0 z)
 
-pub head-some : (size head : ℕ) → (size ≡ 0 → ⊥) → leb head headMax ≡ headOk size head
+pub head-some : (e : Entry) → (e .size ≡ 0 → ⊥) → leb (e .head) headMax ≡ headOk e
 unfolding headOk
-head-some size head z = rw (headOk, ne-eqb size 0 z)
+head-some e z = rw (headOk, ne-eqb (e .size) 0 z)
 
 -- the first file, and the rest above it
-pub first-good : (least : ℕ) (e : Entry) (es : List Entry) → filesOk least (e ∷ es) ≡ true → Good least e
+pub first-good : (least : ℕ) (e : Entry) (es : List Entry) → filesOk least (e ∷ es) ≡ true → GoodEntry least e
 unfolding filesOk
 first-good least e es h = entry-good least e (both-left (entryOk least e) (filesOk (suc (e .number)) es) h)
 
@@ -79,15 +80,15 @@ pub nothing-ok : (least : ℕ) → filesOk least [] ≡ true
 unfolding filesOk
 nothing-ok least = refl
 
-pub join-ok : (least : ℕ) (e : Entry) (es : List Entry) → Good least e → filesOk (suc (e .number)) es ≡ true → filesOk least (e ∷ es) ≡ true
+pub join-ok : (least : ℕ) (e : Entry) (es : List Entry) → GoodEntry least e → filesOk (suc (e .number)) es ≡ true → filesOk least (e ∷ es) ≡ true
 unfolding filesOk
 join-ok least e es g h = rw (good-entry least e g) h
 
-pub looser : (least lower : ℕ) (e : Entry) → lower ≤ least → Good least e → Good lower e
+pub looser : (least lower : ℕ) (e : Entry) → lower ≤ least → GoodEntry least e → GoodEntry lower e
 looser least lower e h g =
     record { least-le = omega (arith, g .least-le); number-le = g .number-le; size-le = g .size-le; head-null = g .head-null; head-le = g .head-le }
 
-pub each-good : (least : ℕ) (es : List Entry) → filesOk least es ≡ true → (k : ℕ) → k < length es → Good least (getD es k noEntry)
+pub each-good : (least : ℕ) (es : List Entry) → filesOk least es ≡ true → (k : ℕ) → k < length es → GoodEntry least (getD es k noEntry)
 each-good least [] h k p = absurd (omega arith)
 each-good least (e ∷ es) h zero p = first-good least e es h
 each-good least (e ∷ es) h (suc k) p =
@@ -125,11 +126,11 @@ pub held-length : (t : Table) → tableOk t ≡ true → length (held t) ≡ t .
 held-length t h = length-take-le (t .count) (t .files) (omega (arith, slots-ok t h, count-ok t h))
 
 -- THE LAW: a table that passes the test is valid, file by file
-pub table-valid : (t : Table) → tableOk t ≡ true → Valid t
+pub table-valid : (t : Table) → tableOk t ≡ true → ValidTable t
 table-valid t h =
     let l = held-length t h in
     let at : (k : ℕ) → k < t .count → getD (held t) k noEntry ≡ file t k = λ k p. getD-take (t .count) (t .files) k noEntry p in
-    let good : (k : ℕ) → k < t .count → Good 0 (file t k)
+    let good : (k : ℕ) → k < t .count → GoodEntry 0 (file t k)
     = λ k p. rw (at k p) at (each-good 0 (held t) (held-ok t h) k (omega arith)) in
     record {
       slots = slots-ok t h;

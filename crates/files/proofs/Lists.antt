@@ -10,12 +10,12 @@ use lib.Seq.{slice, sets, set-append-seam, append-snoc, take-take, take-append-s
 use Rattle.files.specs.declared.Entry.{Entry}
 use Rattle.files.specs.declared.Table.{Table}
 use Rattle.files.specs.declared.Found.the-variants as found
-use Rattle.files.specs.Table.{noEntry, held, tableOf, filesOk, tableOk}
-use Rattle.files.specs.Find.{searchOf}
-use Rattle.files.specs.Change.{emptyFile, placeOf, insertOf, withoutOf, appendOf}
+use Rattle.files.specs.Table.{noEntry, held, tableOf, filesOk, tableOk, searchOf}
+use Rattle.files.specs.Change.{emptyFile, insertOf, withoutOf}
 use Rattle.files.proofs.Tests.{ltb-cases, eqb-cases}
 use Rattle.files.proofs.Laws.{count-ok, held-length, table-ok}
 use Rattle.layout.specs.Numbers.{filesMax}
+use Rattle.files.specs.inner.Facts.{appendOf, slotFor}
 
 -- files stored one by one over zero entries
 pub sets-pad : (es vs : List Entry) (k : ℕ) → sets (es ++ replicate (length vs + k) noEntry) (length es) vs ≡ (es ++ vs) ++ replicate k noEntry
@@ -40,26 +40,26 @@ of-slots es h = simp (length-append, length-replicate) (omega arith)
 pub of-ok : (es : List Entry) → length es ≤ filesMax → filesOk 0 es ≡ true → tableOk (tableOf es) ≡ true
 of-ok es h ok = table-ok (tableOf es) (of-slots es h) h (rw (held-of es) ok)
 
-pub place-le : (number : ℕ) (es : List Entry) → placeOf number es ≤ length es
-unfolding placeOf
+pub place-le : (number : ℕ) (es : List Entry) → slotFor number es ≤ length es
+unfolding slotFor
 place-le number [] = omega arith
 place-le number (e ∷ es) =
     let i = place-le number es in
-    ltb-cases (e .number) number (λ b. (elim b [ true ↦ suc (placeOf number es) | false ↦ 0 ]) ≤ suc (length es)) (λ h. omega arith) (λ h. omega arith)
+    ltb-cases (e .number) number (λ b. (elim b [ true ↦ suc (slotFor number es) | false ↦ 0 ]) ≤ suc (length es)) (λ h. omega arith) (λ h. omega arith)
 
-pub place-count : (t : Table) (number at : ℕ) → tableOk t ≡ true → at ≡ placeOf number (held t) → at ≤ t .count
+pub place-count : (t : Table) (number at : ℕ) → tableOk t ≡ true → at ≡ slotFor number (held t) → at ≤ t .count
 place-count t number at h e = omega (arith, place-le number (held t), held-length t h)
 
 -- an empty file put in at its place
 pub insert-at : (number : ℕ) (es : List Entry)
-    → insertOf number es ≡ take (placeOf number es) es ++ (emptyFile number ∷ drop (placeOf number es) es)
-unfolding insertOf placeOf
+    → insertOf number es ≡ take (slotFor number es) es ++ (emptyFile number ∷ drop (slotFor number es) es)
+unfolding insertOf slotFor
 insert-at number [] = refl
 insert-at number (e ∷ es) =
     ltb-cases (e .number) number
     (λ b. (elim b [ true ↦ e ∷ insertOf number es | false ↦ emptyFile number ∷ (e ∷ es) ])
-    ≡ take (elim b [ true ↦ suc (placeOf number es) | false ↦ 0 ]) (e ∷ es)
-    ++ (emptyFile number ∷ drop (elim b [ true ↦ suc (placeOf number es) | false ↦ 0 ]) (e ∷ es)))
+    ≡ take (elim b [ true ↦ suc (slotFor number es) | false ↦ 0 ]) (e ∷ es)
+    ++ (emptyFile number ∷ drop (elim b [ true ↦ suc (slotFor number es) | false ↦ 0 ]) (e ∷ es)))
     (λ h. ap (λ (l : List Entry). e ∷ l) (insert-at number es))
     (λ h. refl)
 
@@ -86,12 +86,12 @@ stands-on number i j e es ws s =
       left = rw d (ap (λ (l : List Entry). e ∷ l) (s .left));
     }
 
-pub stands : (number i j : ℕ) (es : List Entry) → searchOf i number es ≡ found.At j → Stands number i j es (withoutOf number es)
+pub stands : (number i j : ℕ) (es : List Entry) → searchOf number es i ≡ found.At j → Stands number i j es (withoutOf number es)
 unfolding searchOf withoutOf
 stands number i j [] q = let z : _≡_ {A = ℕ} 0 1 = cc in absurd (omega arith)
 stands number i j (e ∷ es) q =
     eqb-cases (e .number) number
-    (λ b. (elim b [ true ↦ found.At i | false ↦ searchOf (suc i) number es ]) ≡ found.At j
+    (λ b. (elim b [ true ↦ found.At i | false ↦ searchOf number es (suc i) ]) ≡ found.At j
     → Stands number i j (e ∷ es) (elim b [ true ↦ es | false ↦ e ∷ withoutOf number es ]))
     (λ p h. stands-here number i j e es p h)
     (λ p h. stands-on number i j e es (withoutOf number es) (stands number (suc i) j es h))

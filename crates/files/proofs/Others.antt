@@ -12,7 +12,7 @@ use Rattle.files.specs.declared.Entry.{Entry}
 use Rattle.files.specs.Table.{filesOk}
 use Rattle.files.specs.Change.{emptyFile, insertOf, withoutOf}
 use Rattle.files.proofs.Tests.{ltb-cases, eqb-cases}
-use Rattle.files.proofs.Laws.{Good, first-good, rest-ok, nothing-ok, join-ok, looser}
+use Rattle.files.proofs.Laws.{first-good, rest-ok, nothing-ok, join-ok, looser, GoodEntry}
 use Rattle.layout.specs.Numbers.{numberMax}
 
 -- the file of this number, if there is one
@@ -94,11 +94,11 @@ none-head n e es q h = let z : _≡_ {A = ℕ} 0 1 = cc (file-here n e es h) in 
 none-rest : (n : ℕ) (e : Entry) (es : List Entry) → fileOf n (e ∷ es) ≡ none → fileOf n es ≡ none
 none-rest n e es q = sym (file-on n e es (none-head n e es q)) ∙ q
 
-empty-good : (least n : ℕ) → least ≤ n → n ≤ numberMax → Good least (emptyFile n)
+empty-good : (least n : ℕ) → least ≤ n → n ≤ numberMax → GoodEntry least (emptyFile n)
 empty-good least n h k =
     record { least-le = h; number-le = k; size-le = omega arith; head-null = λ z. refl; head-le = λ p. absurd (omega arith) }
 
-above : (least low : ℕ) (e : Entry) → low ≤ e .number → Good least e → Good low e
+above : (least low : ℕ) (e : Entry) → low ≤ e .number → GoodEntry least e → GoodEntry low e
 above least low e h g =
     record { least-le = h; number-le = g .number-le; size-le = g .size-le; head-null = g .head-null; head-le = g .head-le }
 

@@ -14,6 +14,7 @@ use Rattle.files.specs.declared.position.Sought.the-variants as sought
 use Rattle.files.specs.Seek.{withinOf, whenceOf}
 use Rattle.files.proofs.Tests.{ltb-cases}
 use Rattle.layout.specs.Numbers.{sizeMax}
+use Rattle.files.proofs.Cases.{seeking}
 
 -- the sum as the code has it, read back from its bits
 abbrev pub sumOf : ℕ → ℤ → ℤ
@@ -86,24 +87,24 @@ bits-small : (z : ℤ) (k : ℕ) → SFits w32 z → k < 2 ^ 31 → ofZ w32 z �
 bits-small z k s h e = sym (toZ-ofZ s) ∙ ap (toZ w32) e ∙ toZ-pos w32 {n = k} h
 
 -- what is added is the offset, read back from its bits
-module _ (position size : ℕ) (offset whence : ℤ) (o : SFits w32 offset) (s : SFits w32 whence) where
-  pub whence-start : ofZ w32 whence ≡ 0 → withinOf (pos 0 +ℤ toZ w32 (ofZ w32 offset)) ≡ whenceOf position size offset whence
+module _ (number position size : ℕ) (offset whence : ℤ) (o : SFits w32 offset) (s : SFits w32 whence) where
+  pub whence-start : ofZ w32 whence ≡ 0 → withinOf (pos 0 +ℤ toZ w32 (ofZ w32 offset)) ≡ whenceOf (seeking number position offset whence) size
   unfolding whenceOf
   whence-start e = rw (toZ-ofZ o, bits-small whence 0 s (omega arith) e)
 
-  pub whence-held : ofZ w32 whence ≡ 1 → withinOf (pos position +ℤ toZ w32 (ofZ w32 offset)) ≡ whenceOf position size offset whence
+  pub whence-held : ofZ w32 whence ≡ 1 → withinOf (pos position +ℤ toZ w32 (ofZ w32 offset)) ≡ whenceOf (seeking number position offset whence) size
   unfolding whenceOf
   whence-held e = rw (toZ-ofZ o, bits-small whence 1 s (omega arith) e)
 
-  pub whence-end : ofZ w32 whence ≡ 2 → withinOf (pos size +ℤ toZ w32 (ofZ w32 offset)) ≡ whenceOf position size offset whence
+  pub whence-end : ofZ w32 whence ≡ 2 → withinOf (pos size +ℤ toZ w32 (ofZ w32 offset)) ≡ whenceOf (seeking number position offset whence) size
   unfolding whenceOf
   whence-end e = rw (toZ-ofZ o, bits-small whence 2 s (omega arith) e)
 
-pub whence-other : (position size : ℕ) (offset whence : ℤ) → (ofZ w32 whence ≡ 0 → ⊥) → (ofZ w32 whence ≡ 1 → ⊥) → (ofZ w32 whence ≡ 2 → ⊥)
-    → sought.At position ≡ whenceOf position size offset whence
+pub whence-other : (number position size : ℕ) (offset whence : ℤ) → (ofZ w32 whence ≡ 0 → ⊥) → (ofZ w32 whence ≡ 1 → ⊥) → (ofZ w32 whence ≡ 2 → ⊥)
+    → sought.At position ≡ whenceOf (seeking number position offset whence) size
 unfolding whenceOf
-whence-other position size offset (pos zero) a b c = absurd (a refl)
-whence-other position size offset (pos (suc zero)) a b c = absurd (b refl)
-whence-other position size offset (pos (suc (suc zero))) a b c = absurd (c refl)
-whence-other position size offset (pos (suc (suc (suc n)))) a b c = refl
-whence-other position size offset (negsuc n) a b c = refl
+whence-other number position size offset (pos zero) a b c = absurd (a refl)
+whence-other number position size offset (pos (suc zero)) a b c = absurd (b refl)
+whence-other number position size offset (pos (suc (suc zero))) a b c = absurd (c refl)
+whence-other number position size offset (pos (suc (suc (suc n)))) a b c = refl
+whence-other number position size offset (negsuc n) a b c = refl

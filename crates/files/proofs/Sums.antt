@@ -8,11 +8,10 @@ use borrow.Author.Tests.{le-leb, lt-leb}
 use Rattle.files.specs.declared.Table.{Table}
 use Rattle.files.specs.declared.Found.the-variants as found
 use Rattle.files.specs.declared.position.Sought.the-variants as sought
-use Rattle.files.specs.Table.{file}
-use Rattle.files.specs.Find.{findOf}
+use Rattle.files.specs.Table.{file, findOf}
 use Rattle.files.specs.Seek.{withinOf, whenceOf, seekOf}
 use Rattle.files.proofs.Tests.{leb-cases}
-use Rattle.files.proofs.Cases.{seek-at}
+use Rattle.files.proofs.Cases.{seeking, seek-at}
 use Rattle.layout.specs.Numbers.{sizeMax}
 
 -- what whence adds to: 0, the position, the size
@@ -21,11 +20,11 @@ pub data Base (position size : ℕ) : ℤ → ℕ → Type 0 where
   held : Base position size (pos 1) position
   end : Base position size (pos 2) size
 
-base-is : (position size : ℕ) (offset whence : ℤ) (b : ℕ) → Base position size whence b → whenceOf position size offset whence ≡ withinOf (pos b +ℤ offset)
+base-is : (number position size : ℕ) (offset whence : ℤ) (b : ℕ) → Base position size whence b → whenceOf (seeking number position offset whence) size ≡ withinOf (pos b +ℤ offset)
 unfolding whenceOf
-base-is position size offset whence b start = refl
-base-is position size offset whence b held = refl
-base-is position size offset whence b end = refl
+base-is number position size offset whence b start = refl
+base-is number position size offset whence b held = refl
+base-is number position size offset whence b end = refl
 
 within-only : (z : ℤ) (n : ℕ) → withinOf z ≡ sought.At n → (z ≡ pos n) × (n ≤ sizeMax)
 unfolding withinOf
@@ -41,22 +40,22 @@ within-reached z n e l = rw (e, withinOf, le-leb n sizeMax l)
 
 module _ (t : Table) (number i position : ℕ) (offset whence : ℤ) (b : ℕ) (f : findOf t number ≡ found.At i) (l : position ≤ sizeMax)
     (w : Base position (file t i .size) whence b) where
-  is-sum : seekOf t number position offset whence ≡ withinOf (pos b +ℤ offset)
-  is-sum = seek-at t number (findOf t number) refl position offset whence i f l ∙ base-is position (file t i .size) offset whence b w
+  is-sum : seekOf t (seeking number position offset whence) ≡ withinOf (pos b +ℤ offset)
+  is-sum = seek-at t number (findOf t number) refl position offset whence i f l ∙ base-is number position (file t i .size) offset whence b w
 
   -- an answer is the sum, and at most the largest size
-  pub seek-only : (n : ℕ) → seekOf t number position offset whence ≡ sought.At n → (pos b +ℤ offset ≡ pos n) × (n ≤ sizeMax)
+  pub seek-only : (n : ℕ) → seekOf t (seeking number position offset whence) ≡ sought.At n → (pos b +ℤ offset ≡ pos n) × (n ≤ sizeMax)
   seek-only n e = within-only (pos b +ℤ offset) n (sym is-sum ∙ e)
 
   -- every sum from 0 to the largest size is answered
-  pub seek-reached : (n : ℕ) → pos b +ℤ offset ≡ pos n → n ≤ sizeMax → seekOf t number position offset whence ≡ sought.At n
+  pub seek-reached : (n : ℕ) → pos b +ℤ offset ≡ pos n → n ≤ sizeMax → seekOf t (seeking number position offset whence) ≡ sought.At n
   seek-reached n e h = is-sum ∙ within-reached (pos b +ℤ offset) n e h
 
   -- a sum below 0 is refused, and so is one above the largest size
-  pub seek-below : (n : ℕ) → pos b +ℤ offset ≡ negsuc n → seekOf t number position offset whence ≡ sought.Refused
+  pub seek-below : (n : ℕ) → pos b +ℤ offset ≡ negsuc n → seekOf t (seeking number position offset whence) ≡ sought.Refused
   unfolding withinOf
   seek-below n e = is-sum ∙ rw e
 
-  pub seek-above : (n : ℕ) → pos b +ℤ offset ≡ pos n → sizeMax < n → seekOf t number position offset whence ≡ sought.Refused
+  pub seek-above : (n : ℕ) → pos b +ℤ offset ≡ pos n → sizeMax < n → seekOf t (seeking number position offset whence) ≡ sought.Refused
   unfolding withinOf
   seek-above n e h = is-sum ∙ rw (e, withinOf, lt-leb n sizeMax h)

@@ -10,37 +10,36 @@ use borrow.Author.Tests.{lt-ltb, le-ltb, eq-eqb, ne-eqb}
 use Rattle.files.specs.declared.Entry.{Entry}
 use Rattle.files.specs.declared.Table.{Table}
 use Rattle.files.specs.declared.Found.the-variants as found
-use Rattle.files.specs.Table.{noEntry}
-use Rattle.files.specs.Find.{searchOf}
-use Rattle.files.specs.Change.{placeOf, appendOf}
+use Rattle.files.specs.Table.{noEntry, searchOf}
 use Rattle.files.proofs.Laws.{slice-end}
+use Rattle.files.specs.inner.Facts.{appendOf, slotFor}
 
 module _ (fs : List Entry) (i count : ℕ) where
-  pub search-here : (number : ℕ) → i < count → count ≤ length fs → getD fs i noEntry .number ≡ number → searchOf i number (slice i count fs) ≡ found.At i
+  pub search-here : (number : ℕ) → i < count → count ≤ length fs → getD fs i noEntry .number ≡ number → searchOf number (slice i count fs) i ≡ found.At i
   unfolding searchOf
   search-here number h l e = rw (slice-cons i count fs noEntry h l, searchOf, eq-eqb (getD fs i noEntry .number) number e)
 
   pub search-on : (number : ℕ) → i < count → count ≤ length fs → (getD fs i noEntry .number ≡ number → ⊥)
-      → searchOf i number (slice i count fs) ≡ searchOf (i + 1) number (slice (i + 1) count fs)
+      → searchOf number (slice i count fs) i ≡ searchOf number (slice (i + 1) count fs) (i + 1)
   unfolding searchOf
   search-on number h l e = rw (slice-cons i count fs noEntry h l, searchOf, ne-eqb (getD fs i noEntry .number) number e, add-one i)
 
-  pub search-end : (number : ℕ) → i ≤ count → count ≤ i → searchOf i number (slice i count fs) ≡ found.Missing
+  pub search-end : (number : ℕ) → i ≤ count → count ≤ i → searchOf number (slice i count fs) i ≡ found.Missing
   unfolding searchOf
   search-end number h l = rw (slice-end fs i count h l)
 
-  pub place-here : (number : ℕ) → i < count → count ≤ length fs → number ≤ getD fs i noEntry .number → i + placeOf number (slice i count fs) ≡ i
-  unfolding placeOf
-  place-here number h l e = rw (slice-cons i count fs noEntry h l, placeOf, le-ltb (getD fs i noEntry .number) number e) (omega arith)
+  pub place-here : (number : ℕ) → i < count → count ≤ length fs → number ≤ getD fs i noEntry .number → i + slotFor number (slice i count fs) ≡ i
+  unfolding slotFor
+  place-here number h l e = rw (slice-cons i count fs noEntry h l, slotFor, le-ltb (getD fs i noEntry .number) number e) (omega arith)
 
   pub place-on : (number : ℕ) → i < count → count ≤ length fs → getD fs i noEntry .number < number
-      → i + placeOf number (slice i count fs) ≡ i + 1 + placeOf number (slice (i + 1) count fs)
-  unfolding placeOf
+      → i + slotFor number (slice i count fs) ≡ i + 1 + slotFor number (slice (i + 1) count fs)
+  unfolding slotFor
   place-on number h l e =
-      rw (slice-cons i count fs noEntry h l, placeOf, lt-ltb (getD fs i noEntry .number) number e, add-one i) (omega arith)
+      rw (slice-cons i count fs noEntry h l, slotFor, lt-ltb (getD fs i noEntry .number) number e, add-one i) (omega arith)
 
-  pub place-end : (number : ℕ) → i ≤ count → count ≤ i → i + placeOf number (slice i count fs) ≡ i
-  unfolding placeOf
+  pub place-end : (number : ℕ) → i ≤ count → count ≤ i → i + slotFor number (slice i count fs) ≡ i
+  unfolding slotFor
   place-end number h l = rw (slice-end fs i count h l) (omega arith)
 
   pub append-on : (l : List Entry) (n : ℕ) → i < count → count ≤ length fs

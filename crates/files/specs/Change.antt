@@ -1,10 +1,8 @@
 -- How create, remove and the store change a table.
-use mathlib.Core.Path.{_≡_}
 use mathlib.Core.Bool.{true, false}
 use mathlib.Core.List.{List, [], _∷_}
-use Prim.Native.Nat.{ℕ, suc, _+_, _-_, _≤_}
-use lib.ListN.{length, set}
-use lib.Seq.{sets}
+use Prim.Native.Nat.{ℕ}
+use lib.ListN.{set}
 use lib.Dec.{ltb, eqb}
 use lib.IntN.{ℤ}
 use Rattle.files.specs.declared.Entry.{Entry}
@@ -13,18 +11,13 @@ use Rattle.files.specs.declared.Found.the-variants as found
 use Rattle.files.specs.declared.change.Change.{Change}
 use Rattle.files.specs.declared.change.Change.the-variants as change
 use Rattle.files.specs.declared.change.Changed.{Changed}
-use Rattle.files.specs.Table.{held, file, tableOf}
-use Rattle.files.specs.Find.{findOf}
+use Rattle.files.specs.Table.{held, file, tableOf, findOf}
+use Rattle.layout.specs.Layout.{BlockList}
 use Rattle.layout.specs.Numbers.{filesMax, nullBlock, accepted, file-exists, invalid, no-file, table-full}
 
 -- an empty file
 abbrev pub emptyFile : ℕ → Entry
 emptyFile number = record { number = number; size = 0; head = nullBlock }
-
--- how many files stand before file `number`
-unfoldable pub placeOf : ℕ → List Entry → ℕ
-placeOf number [] = 0
-placeOf number (e ∷ es) = elim (ltb (e .number) number) [ true ↦ suc (placeOf number es) | false ↦ 0 ]
 
 -- these files with an empty file `number` put in, numbers rising
 unfoldable pub insertOf : ℕ → List Entry → List Entry
@@ -36,17 +29,6 @@ insertOf number (e ∷ es) =
 unfoldable pub withoutOf : ℕ → List Entry → List Entry
 withoutOf number [] = []
 withoutOf number (e ∷ es) = elim (eqb (e .number) number) [ true ↦ es | false ↦ e ∷ withoutOf number es ]
-
--- a table with more files at its end
-abbrev pub appendOf : Table → List Entry → Table
-appendOf t es = record { files = sets (t .files) (t .count) es; count = t .count + length es }
-
--- that there is room in u for the files of t from place `from` to place `to`
-pub record Room (u t : Table) (from to : ℕ) : Type 0 where
-  pub slots : length (t .files) ≡ filesMax
-  pub in-order : from ≤ to
-  pub to-le : to ≤ filesMax
-  pub fits : u .count + (to - from) ≤ filesMax
 
 -- a change, or a refusal that hands the table back as it came
 abbrev pub changed : Change → Table → Changed
@@ -81,7 +63,7 @@ changeCode change.Full = table-full
 changeCode change.Exists = file-exists
 changeCode change.Refused = invalid
 
--- the table with another size and head of file i: the store's change
-abbrev pub putOf : Table → ℕ → ℕ → ℕ → Table
-putOf t i size head =
-    record { files = set (t .files) i (record { number = file t i .number; size = size; head = head }); count = t .count }
+-- the table with another list of the file at place i: the store's change
+abbrev pub withList : Table → ℕ → BlockList → Table
+withList t i list =
+    record { files = set (t .files) i (record { number = file t i .number; size = list .size; head = list .head }); count = t .count }

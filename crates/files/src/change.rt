@@ -11,8 +11,9 @@ ghost use mathlib.Core.List.{_∷_, _++_};
 ghost use lib.ListN.{take, drop};
 ghost use lib.Seq.{slice};
 ghost use Rattle.files.specs.Table.{held, tableOf, tableOk};
-ghost use Rattle.files.specs.Change.{Room, emptyFile, placeOf, appendOf, createOf, removeOf, putOf};
+ghost use Rattle.files.specs.Change.{emptyFile, createOf, removeOf, withList};
 ghost use Rattle.layout.specs.Numbers.{filesMax};
+ghost use Rattle.files.specs.inner.Facts.{appendOf, slotFor, AppendRoom};
 
 // What became of a table, and the table.
 pub enum Change {
@@ -31,7 +32,7 @@ pub struct Changed {
 // How many files stand before file `number`.
 fn place(t: Table, number: u32) -> u32
     requires { ⌜ tableOk t ≡ true ⌝ }
-    ensures { λ r. ⌜ r ≡ placeOf number (held t) ⌝ }
+    ensures { λ r. ⌜ r ≡ slotFor number (held t) ⌝ }
 {
     let count = t.count;
     let mut i: u32 = 0;
@@ -46,7 +47,7 @@ fn place(t: Table, number: u32) -> u32
 
 // `u` with the files of `t` from place `from` to place `to` at its end.
 fn append(u: Table, t: Table, from: u32, to: u32) -> Table
-    requires { ⌜ Room u t from to ⌝ }
+    requires { ⌜ AppendRoom u t from to ⌝ }
     ensures { λ r. ⌜ r ≡ appendOf u (slice from to (t .files)) ⌝ }
 {
     let mut v = u;
@@ -136,7 +137,7 @@ pub fn remove(t: Table, number: u32) -> Changed
 // The table with another size and head of the file at place `i`.
 pub fn put(mut t: Table, i: u32, size: u32, head: u32) -> Table
     requires { ⌜ i < filesMax ⌝ }
-    ensures { λ r. ⌜ r ≡ putOf t i size head ⌝ }
+    ensures { λ r. ⌜ r ≡ withList t i (record { head = head; size = size }) ⌝ }
 {
     let number = t.files[i as usize].number;
     t.files[i as usize] = Entry {

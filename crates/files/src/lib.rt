@@ -6,8 +6,7 @@ use layout::Geometry;
 ghost use mathlib.Core.Path.{_≡_};
 ghost use mathlib.Core.Bool.{true};
 ghost use mathlib.Core.List.{[]};
-ghost use Rattle.files.specs.Table.{held, tableOf, entryOk, tableOk};
-ghost use Rattle.files.specs.Find.{searchOf, findOf, sizeOf};
+ghost use Rattle.files.specs.Table.{held, tableOf, entryOk, tableOk, searchOf, findOf, sizeOf};
 
 // A file: its number, its size, and the last block of its list.
 #[repr(C)]
@@ -100,7 +99,7 @@ pub enum Found {
 // The place of file `number` in a table that is valid.
 fn search(t: Table, number: u32) -> Found
     requires { ⌜ tableOk t ≡ true ⌝ }
-    ensures { λ r. ⌜ r ≡ searchOf 0 number (held t) ⌝ }
+    ensures { λ r. ⌜ r ≡ searchOf number (held t) 0 ⌝ }
 {
     let count = t.count;
     let mut i: u32 = 0;

@@ -30,7 +30,7 @@ fn moved(base: u32, offset: i32) -> Sought
 
 // The position that `offset` leads to, from 0, from the held position or from the size of file `number`.
 pub fn seek(t: Table, number: u32, position: u32, offset: i32, whence: i32) -> Sought
-    ensures { λ r. ⌜ r ≡ seekOf t number position offset whence ⌝ }
+    ensures { λ r. ⌜ r ≡ seekOf t (record { number = number; position = position; offset = offset; whence = whence }) ⌝ }
 {
     match find(t, number) {
         Found::At(i) => {

@@ -10,29 +10,31 @@ use Rattle.window.specs.declared.Got.the-variants as got
 use Rattle.window.specs.declared.Taken.{Taken}
 use Rattle.window.specs.declared.Answer.the-variants as answer
 use Rattle.window.specs.declared.Allocated.{Allocated}
-use Rattle.window.specs.Value.{Valid}
-use Rattle.window.specs.Search.{takeOf}
-use Rattle.window.specs.Allocate.{allocOf}
+use Rattle.window.specs.Allocate.{takeOf, allocOf}
 use Rattle.alloc.specs.Visits.{seenIn}
-use Rattle.alloc.specs.Allocate.{Ready}
 use Rattle.alloc.proofs.Turning.{allocating, answers-block}
 use Rattle.grow.specs.declared.Growth.{Growth}
 use Rattle.grow.specs.declared.Growth.the-variants.{Full, Damaged}
 use Rattle.grow.specs.declared.Grew.{Grew}
 use Rattle.grow.specs.declared.block.Linked.{Linked}
 use Rattle.grow.specs.declared.block.Linked.the-variants.{Done, Spoiled}
-use Rattle.grow.specs.Supply.{Block}
-use Rattle.grow.specs.Grow.{GrowOut, grow-out, growOf}
-use Rattle.grow.specs.Attempt.{tryOf, LinkGives, Linking}
-use Rattle.grow.specs.Extend.{windowAlloc, extendIn, Extending, GrewGives}
+use Rattle.grow.specs.inner.Attempt.{tryOf, LinkGives, Linking}
+use Rattle.grow.specs.Extend.{GrowOut, grow-out}
 use Rattle.grow.proofs.Turns.{grow-none, grow-bad}
 use Rattle.grow.proofs.Tries.{grow-done, grow-moves}
 use Rattle.grow.proofs.Takes.{Outcome, allocated, took-block, took-none, took-bad, took-refused}
+use Rattle.trials.specs.Loop.{Block}
+use Rattle.grow.specs.inner.Grow.{growOf}
+use Rattle.grow.specs.inner.Extend.{windowAlloc, extendIn, Extending}
+use Rattle.window.specs.inner.Facts.{ValidWindow, scope}
+use Rattle.alloc.specs.inner.Facts.{Ready}
+use Rattle.card.specs.inner.Cards.{cardWith}
+use Rattle.grow.specs.inner.Gives.{GrewGives}
 
 -- window w and image img, in the middle of a growth from window w₀ and image img₀
 pub record Rest (B N l : ℕ) (health : List ℕ) (t : Table) (w₀ : Lookahead) (head s : ℕ) (img₀ : List ℕ) (w : Lookahead) (img : List ℕ) : Type 0 where
   pub long : length img ≡ length img₀
-  pub valid : Valid w N l
+  pub valid : ValidWindow w N l
   pub tries : ℕ
   pub left : w .ckpoint < tries
   pub same : extendIn B N l health t w₀ head s img₀ ≡ growOf (windowAlloc B N l t) tries w health B N head s img
@@ -57,9 +59,9 @@ module _ {B N l : ℕ} {health : List ℕ} {t : Table} {w₀ : Lookahead} {s : �
       record { long = refl; valid = x .ready .window; tries = suc (w₀ .ckpoint); left = omega arith; same = refl }
 
   -- the window holds a block: the allocation answers it
-  pub held : {r : Taken} → r ≡ takeOf w₀ N → {k : ℕ} → r .answer ≡ got.Block k
-      → record { answer = answer.Block k; window = r .window } ≡ allocOf N l (seenIn B N img₀ t) w₀
-  held p e = answers-block N l (seenIn B N img₀ t) w₀ (allocating N l (seenIn B N img₀ t) w₀ (x .ready .window)) p e
+  pub held : {r : Taken} → r ≡ takeOf N w₀ → {k : ℕ} → r .answer ≡ got.Block k
+      → record { answer = answer.Block k; window = r .window } ≡ allocOf (scope N l) (seenIn (cardWith B N img₀) t) w₀
+  held p e = answers-block N l (seenIn (cardWith B N img₀) t) w₀ (allocating N l (seenIn (cardWith B N img₀) t) w₀ (x .ready .window)) p e
 
   module _ {head : ℕ} {w : Lookahead} {img : List ℕ} (r : Rest B N l health t w₀ head s img₀ w img) where
     -- an allocation may be asked
@@ -79,7 +81,7 @@ module _ {B N l : ℕ} {health : List ℕ} {t : Table} {w₀ : Lookahead} {s : �
     begun = r .same ∙ ap (λ (m : ℕ). growOf (windowAlloc B N l t) m w health B N head s img) tries-some
 
     -- the allocation answered
-    module _ {a : Allocated} (p : a ≡ allocOf N l (seenIn B N img t) w) where
+    module _ {a : Allocated} (p : a ≡ allocOf (scope N l) (seenIn (cardWith B N img) t) w) where
       pub ends-full : a .answer ≡ answer.NoSpace
           → GrewGives (extendIn B N l health t w₀ head s img₀) (record { answer = Full; window = a .window }) img
       ends-full e =
@@ -99,7 +101,7 @@ module _ {B N l : ℕ} {health : List ℕ} {t : Table} {w₀ : Lookahead} {s : �
           (begun ∙ grow-bad (windowAlloc B N l t) (r .tries - 1) w (a .window) health B N head s img (took-refused B N l t w img p e))
 
       pub outcome : Outcome N l (w .ckpoint) a
-      outcome = rw p (allocated N l (seenIn B N img t) w (r .valid))
+      outcome = rw p (allocated N l (seenIn (cardWith B N img) t) w (r .valid))
 
       -- with a block
       module _ {k : ℕ} (e : a .answer ≡ answer.Block k) where

@@ -9,4 +9,7 @@ pub mod Takes
 pub mod Extends
 pub mod Tests
 pub mod Grown
+pub mod Pointed
+pub mod Growths
+pub mod Same
 pub mod Examples

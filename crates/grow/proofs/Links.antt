@@ -10,21 +10,24 @@ use lib.Dec.{ltb, eqb}
 use lib.ListN.{take, drop}
 use borrow.Author.Tests.{lt-ltb, le-ltb, eq-eqb, ne-eqb}
 use Rattle.layout.specs.Layout.{pointers, indexAt, offsetAt}
-use Rattle.layout.specs.Place.{Sized, Served}
 use Rattle.layout.proofs.Places.{Same, Next, next-place, offset-inside}
 use Rattle.layout.proofs.Laws.{pointers-pos}
 use Rattle.layout.proofs.Served.{served, index-in, index-below, pointers-fit}
 use Rattle.device.specs.declared.Programmed.{Programmed}
 use Rattle.device.specs.declared.Programmed.the-variants.{Stored, Refused}
-use Rattle.device.specs.Device.{stored, programOf, ProgramGives}
+use Rattle.device.specs.Device.{stored}
 use Rattle.device.proofs.Steps.{told-stored, told-refused}
 use Rattle.grow.specs.declared.Growth.the-variants.{Grown, Damaged}
 use Rattle.grow.specs.declared.block.Linked.the-variants.{Done, Spoiled}
-use Rattle.grow.specs.Grow.{grow-out, part, pointersOf, linkOf, spoils}
-use Rattle.grow.specs.Attempt.{putOf, attemptOf}
+use Rattle.grow.specs.inner.Attempt.{attemptOf, putPointers}
 use Rattle.grow.proofs.Spoils.{spoils-stored, spoils-empty, spoils-damaged, spoils-refused, spoils-some}
 use Rattle.grow.proofs.Pointers.{pointers-rest}
 use Rattle.layout.specs.Numbers.{sizeMax}
+use Rattle.grow.specs.Extend.{grow-out}
+use Rattle.grow.specs.inner.Grow.{part, pointersOf, linkOf, spoils}
+use Rattle.layout.specs.inner.Served.{BlockSized, Served}
+use Rattle.device.specs.inner.Bounds.{spot}
+use Rattle.device.specs.inner.Steps.{programOf, ProgramGives}
 
 module _ {W : Type 0} (B N k head : ℕ) (img : List ℕ) (w : W) where
   -- size 0 stops there with offset 0
@@ -40,7 +43,7 @@ module _ {W : Type 0} (B N k head : ℕ) (img : List ℕ) (w : W) where
     -- an incomplete last block has its bytes copied
     pub link-copied : head < N → (suc (offsetAt B p) ≡ B → ⊥)
         → linkOf B N k head (suc p) img w
-        ≡ grow-out (Grown k (suc (offsetAt B p))) (stored B k 0 (part B head 0 (suc (offsetAt B p)) img) img) w
+        ≡ grow-out (Grown k (suc (offsetAt B p))) (stored B img (spot k 0) (part B head 0 (suc (offsetAt B p)) img)) w
     unfolding linkOf
     link-copied h n = rw (linkOf, lt-ltb head N h, ne-eqb (suc (offsetAt B p)) B n)
 
@@ -72,7 +75,7 @@ link-rest B N k head (suc p) img w v = go (ltb head N) refl (eqb (suc (offsetAt 
 
 -- ---- the numbers of a list's last byte, at position p
 
-module _ {B : ℕ} (z : Sized B) (p : ℕ) (w : suc p ≤ sizeMax) where
+module _ {B : ℕ} (z : BlockSized B) (p : ℕ) (w : suc p ≤ sizeMax) where
   last : Served B p
   last = served z (omega arith)
 
@@ -137,10 +140,10 @@ module _ (health : List ℕ) (B N k head s : ℕ) (img : List ℕ) where
           )
 
     pub attempt-pointers : (index count : ℕ) → head < N → suc (offsetAt B p) ≡ B → index ≡ indexAt B p → count ≡ pointers (index + 1)
-        → attemptOf health B N k head s img ≡ putOf health B N k (4 * count) count 0 head img
-    unfolding attemptOf putOf
+        → attemptOf health B N k head s img ≡ putPointers health B N k (4 * count) count 0 head img
+    unfolding attemptOf putPointers
     attempt-pointers index count h f i u =
         let c : count ≡ pointers (suc (indexAt B p)) = next-count B p index count i u in
         let l : 0 < count = omega (arith, u, pointers-pos (index + 1) (λ n. omega arith)) in
         let t : spoils health N k head s ≡ spoils health N k head count = spoils-some health N k head s count (omega arith) l in
-        rw (attemptOf, putOf, t, e, link-pointers B N k head img (tt {0}) p h f, ← c)
+        rw (attemptOf, putPointers, t, e, link-pointers B N k head img (tt {0}) p h f, ← c)

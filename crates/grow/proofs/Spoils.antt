@@ -6,7 +6,7 @@ use Prim.Native.Nat.{ℕ, _≤_, _<_}
 use lib.Dec.{ltb}
 use borrow.Author.Tests.{lt-ltb, le-ltb}
 use Rattle.device.specs.Device.{refusesProgram}
-use Rattle.grow.specs.Grow.{spoils}
+use Rattle.grow.specs.inner.Grow.{spoils}
 
 module _ (health : List ℕ) (N k head s : ℕ) where
   -- the block takes programs

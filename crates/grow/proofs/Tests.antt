@@ -17,10 +17,11 @@ use Rattle.window.specs.declared.Lookahead.{Lookahead}
 use Rattle.window.specs.Value.{lookaheadFits, validOf}
 use Rattle.window.proofs.Valid.{looks}
 use Rattle.alloc.proofs.Tested.{ready}
-use Rattle.grow.specs.declared.Growth.the-variants.{Refused}
-use Rattle.grow.specs.Grow.{grow-out}
-use Rattle.grow.specs.Extend.{extendTested, extendIn, extendOf, Extending}
 use Rattle.layout.specs.Numbers.{sizeMax}
+use Rattle.grow.specs.inner.Extend.{extendTested, Extending}
+use Rattle.layout.specs.inner.Served.{geometry}
+use Rattle.window.specs.inner.Facts.{scope}
+use Rattle.grow.specs.Setting.{testedOf}
 
 -- a test that the code turns round: r is what the tested call answered
 pub held : {r x : Bool} → r ≡ x → not r ≡ false → x ≡ true
@@ -30,46 +31,46 @@ pub fails : {r x : Bool} → r ≡ x → not r ≡ true → x ≡ false
 fails {r} e h = sym e ∙ not-true r h
 
 -- behind the test of L
-pub lookahead-le : (B N l len : ℕ) → goodCard B N len ≡ true → lookaheadFits l ≡ true → l ≤ 64
+pub lookahead-le : (B N l len : ℕ) → goodCard (geometry B N) len ≡ true → lookaheadFits l ≡ true → l ≤ 64
 lookahead-le B N l len a e = let k = card B N len a in looks N l (k .some) (k .few) e .l-le
 
 module _ (B N l len : ℕ) (health : List ℕ) (t : Table) (w : Lookahead) (s : ℕ) where
-  pub no-card : goodCard B N len ≡ false → false ≡ extendTested B N l len health t w s
-  unfolding extendTested
-  no-card e = rw (extendTested, e)
+  pub no-card : goodCard (geometry B N) len ≡ false → false ≡ extendTested B N l len health t w s
+  unfolding extendTested testedOf
+  no-card e = rw (extendTested, testedOf, e)
 
-  module _ (a : goodCard B N len ≡ true) where
+  module _ (a : goodCard (geometry B N) len ≡ true) where
     pub no-health : healthOk health N ≡ false → false ≡ extendTested B N l len health t w s
-    unfolding extendTested
-    no-health e = rw (extendTested, a, e)
+    unfolding extendTested testedOf
+    no-health e = rw (extendTested, testedOf, a, e)
 
     module _ (b : healthOk health N ≡ true) where
       pub no-lookahead : lookaheadFits l ≡ false → false ≡ extendTested B N l len health t w s
-      unfolding extendTested
-      no-lookahead e = rw (extendTested, a, b, e)
+      unfolding extendTested testedOf
+      no-lookahead e = rw (extendTested, testedOf, a, b, e)
 
       module _ (c : lookaheadFits l ≡ true) where
-        pub no-window : validOf w N l ≡ false → false ≡ extendTested B N l len health t w s
-        unfolding extendTested
-        no-window e = rw (extendTested, a, b, c, e)
+        pub no-window : validOf (scope N l) w ≡ false → false ≡ extendTested B N l len health t w s
+        unfolding extendTested testedOf
+        no-window e = rw (extendTested, testedOf, a, b, c, e)
 
-        module _ (d : validOf w N l ≡ true) where
+        module _ (d : validOf (scope N l) w ≡ true) where
           pub no-table : tableOk t ≡ false → false ≡ extendTested B N l len health t w s
-          unfolding extendTested
-          no-table e = rw (extendTested, a, b, c, d, e)
+          unfolding extendTested testedOf
+          no-table e = rw (extendTested, testedOf, a, b, c, d, e)
 
           pub last-test : tableOk t ≡ true → leb s sizeMax ≡ extendTested B N l len health t w s
-          unfolding extendTested
-          last-test e = rw (extendTested, a, b, c, d, e)
+          unfolding extendTested testedOf
+          last-test e = rw (extendTested, testedOf, a, b, c, d, e)
 
 -- behind the tests
 pub extending : {B N l : ℕ} {image health : List ℕ} {t : Table} {w : Lookahead} {s : ℕ}
     → extendTested B N l (length image) health t w s ≡ true → Extending B N l image health t w s
-unfolding extendTested
+unfolding extendTested testedOf
 extending {B} {N} {l} {image} {health} {t} {w} {s} e =
     let f = and-eq-true-iff _ (leb s sizeMax) .0 e in
     let d = and-eq-true-iff _ (tableOk t) .0 (f .0) in
-    let c = and-eq-true-iff _ (validOf w N l) .0 (d .0) in
+    let c = and-eq-true-iff _ (validOf (scope N l) w) .0 (d .0) in
     let b = and-eq-true-iff _ (lookaheadFits l) .0 (c .0) in
     let a = and-eq-true-iff _ (healthOk health N) .0 (b .0) in
     record {
@@ -77,14 +78,3 @@ extending {B} {N} {l} {image} {health} {t} {w} {s} e =
       known = le-of-eq (sym (healthy health N (a .1) .count));
       fits = leb-true s sizeMax (f .1);
     }
-
-module _ (B N l : ℕ) (health : List ℕ) (t : Table) (w : Lookahead) (head s : ℕ) (img : List ℕ) where
-  pub extend-tested : extendTested B N l (length img) health t w s ≡ true
-      → extendOf B N l health t w head s img ≡ extendIn B N l health t w head s img
-  unfolding extendOf
-  extend-tested e = rw (extendOf, e)
-
-  pub extend-refused : extendTested B N l (length img) health t w s ≡ false
-      → extendOf B N l health t w head s img ≡ grow-out Refused img w
-  unfolding extendOf
-  extend-refused e = rw (extendOf, e)

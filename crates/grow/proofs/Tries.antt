@@ -8,18 +8,20 @@ use lib.ListN.{getD}
 use borrow.Author.Tests.{ne-eqb}
 use Rattle.device.specs.declared.Erased.{Erased}
 use Rattle.device.specs.declared.Erased.the-variants.{Wiped, Kept}
-use Rattle.device.specs.Device.{wiped, refusesErase, eraseOf, EraseGives}
+use Rattle.device.specs.Device.{wiped, refusesErase}
 use Rattle.device.proofs.Steps.{told-wiped, told-kept}
 use Rattle.window.proofs.Cases.{no-both}
 use Rattle.grow.specs.declared.Growth.{Growth}
 use Rattle.grow.specs.declared.block.Linked.{Linked}
 use Rattle.grow.specs.declared.block.Linked.the-variants.{Done, Spoiled}
-use Rattle.grow.specs.Supply.{Took, Block}
-use Rattle.grow.specs.Grow.{grow-out, linkOf, spoils, growOf}
-use Rattle.grow.specs.Attempt.{LinkOut, LinkGives, attemptOf, tryOf}
+use Rattle.grow.specs.inner.Attempt.{LinkOut, LinkGives, attemptOf, tryOf}
 use Rattle.grow.proofs.Links.{link-rest}
 use Rattle.grow.proofs.Spoils.{spoils-stored}
 use Rattle.grow.proofs.Turns.{grow-kept, grow-spoiled, grow-linked}
+use Rattle.trials.specs.Loop.{Took, Block}
+use Rattle.grow.specs.Extend.{grow-out}
+use Rattle.grow.specs.inner.Grow.{linkOf, spoils, growOf}
+use Rattle.device.specs.inner.Steps.{eraseOf, EraseGives}
 
 module _ (health : List ℕ) (B N k head s : ℕ) (img : List ℕ) where
   -- r is the device's answer to the erase, img′ the image that it left
@@ -40,9 +42,9 @@ module _ (health : List ℕ) (B N k head s : ℕ) (img : List ℕ) where
   pub data TryView (o : LinkOut) : Type 0 where
     kept : refusesErase health k ≡ true → o ≡ record { answer = Spoiled; image = img } → TryView o
     spoiled : refusesErase health k ≡ false → spoils health N k head s ≡ true
-        → o ≡ record { answer = Spoiled; image = wiped B k img } → TryView o
+        → o ≡ record { answer = Spoiled; image = wiped B img k } → TryView o
     linked : refusesErase health k ≡ false → spoils health N k head s ≡ false
-        → o ≡ record { answer = Done (linkOf B N k head s (wiped B k img) (tt {0}) .answer); image = linkOf B N k head s (wiped B k img) (tt {0}) .image }
+        → o ≡ record { answer = Done (linkOf B N k head s (wiped B img k) (tt {0}) .answer); image = linkOf B N k head s (wiped B img k) (tt {0}) .image }
         → TryView o
 
   pub try-view : TryView (tryOf health B N k head s img)
@@ -87,10 +89,10 @@ module _ {W : Type 0} (alloc : W → List ℕ → Took W) (m : ℕ) (w w′ : W)
       go (kept f q) d = absurd (spoiled-done q d)
       go (spoiled f p q) d = absurd (spoiled-done q d)
       go (linked f p q) d =
-          let x : Done (linkOf B N k head s (wiped B k img) (tt {0}) .answer) ≡ Done a = sym (ap (λ (x : LinkOut). x .answer) q) ∙ d in
-          let y : linkOf B N k head s (wiped B k img) (tt {0}) .answer ≡ a = cc in
-          let z : img′ ≡ linkOf B N k head s (wiped B k img) (tt {0}) .image = g .image ∙ ap (λ (x : LinkOut). x .image) q in
-          grow-linked alloc m w w′ health B N head s img k e f p ∙ rw (z, ← y) (link-rest B N k head s (wiped B k img) w′ (tt {0}))
+          let x : Done (linkOf B N k head s (wiped B img k) (tt {0}) .answer) ≡ Done a = sym (ap (λ (x : LinkOut). x .answer) q) ∙ d in
+          let y : linkOf B N k head s (wiped B img k) (tt {0}) .answer ≡ a = cc in
+          let z : img′ ≡ linkOf B N k head s (wiped B img k) (tt {0}) .image = g .image ∙ ap (λ (x : LinkOut). x .image) q in
+          grow-linked alloc m w w′ health B N head s img k e f p ∙ rw (z, ← y) (link-rest B N k head s (wiped B img k) w′ (tt {0}))
 
   -- the block refused: another try
   pub grow-moves : r ≡ Spoiled → growOf alloc (suc m) w health B N head s img ≡ growOf alloc m w′ health B N head s img′
@@ -102,6 +104,6 @@ module _ {W : Type 0} (alloc : W → List ℕ → Took W) (m : ℕ) (w w′ : W)
           let z : img′ ≡ img = g .image ∙ ap (λ (x : LinkOut). x .image) q in
           rw z (grow-kept alloc m w w′ health B N head s img k e f)
       go (spoiled f p q) d =
-          let z : img′ ≡ wiped B k img = g .image ∙ ap (λ (x : LinkOut). x .image) q in
+          let z : img′ ≡ wiped B img k = g .image ∙ ap (λ (x : LinkOut). x .image) q in
           rw z (grow-spoiled alloc m w w′ health B N head s img k e f p)
       go (linked f p q) d = absurd (done-spoiled q d)

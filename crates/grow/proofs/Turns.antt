@@ -5,8 +5,9 @@ use mathlib.Core.List.{List}
 use Prim.Native.Nat.{ℕ, suc}
 use Rattle.device.specs.Device.{wiped, refusesErase}
 use Rattle.grow.specs.declared.Growth.the-variants.{Full, Damaged}
-use Rattle.grow.specs.Supply.{Took, Block, None, Bad}
-use Rattle.grow.specs.Grow.{grow-out, linkOf, spoils, growOf}
+use Rattle.trials.specs.Loop.{Took, Block, None, Bad}
+use Rattle.grow.specs.Extend.{grow-out}
+use Rattle.grow.specs.inner.Grow.{linkOf, spoils, growOf}
 
 module _ {W : Type 0} (alloc : W → List ℕ → Took W) (m : ℕ) (w w′ : W) (health : List ℕ) (B N head s : ℕ) (img : List ℕ) where
   -- no block is left
@@ -27,11 +28,11 @@ module _ {W : Type 0} (alloc : W → List ℕ → Took W) (m : ℕ) (w w′ : W)
 
     -- a refused program moves on
     pub grow-spoiled : refusesErase health k ≡ false → spoils health N k head s ≡ true
-        → growOf alloc (suc m) w health B N head s img ≡ growOf alloc m w′ health B N head s (wiped B k img)
+        → growOf alloc (suc m) w health B N head s img ≡ growOf alloc m w′ health B N head s (wiped B img k)
     unfolding growOf
     grow-spoiled r p = rw (growOf, e, r, p)
 
     pub grow-linked : refusesErase health k ≡ false → spoils health N k head s ≡ false
-        → growOf alloc (suc m) w health B N head s img ≡ linkOf B N k head s (wiped B k img) w′
+        → growOf alloc (suc m) w health B N head s img ≡ linkOf B N k head s (wiped B img k) w′
     unfolding growOf
     grow-linked r p = rw (growOf, e, r, p)

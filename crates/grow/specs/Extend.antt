@@ -1,84 +1,68 @@
--- `ctz_extend`: the growth with the window as its allocator, for every input (01, "Lookup, visit, grow", "The window", "Refusal numbers").
-use mathlib.Core.Path.{_≡_}
-use mathlib.Core.Bool.{Bool, true, false, _&&_}
+-- `ctz_extend`: one growth with the window as its allocator, for every input (01, "Lookup, visit, grow", "The window", "Refusal numbers").
+use mathlib.Core.Bool.{true, false, _&&_}
 use mathlib.Core.List.{List}
-use Prim.Native.Nat.{ℕ, suc, _≤_}
+use Prim.Native.Nat.{ℕ, suc}
 use lib.Dec.{leb}
-use lib.IntN.{ℤ}
-use lib.ListN.{length}
-use Rattle.card.specs.Card.{goodCard}
-use Rattle.device.specs.Health.{healthOk}
+use Rattle.layout.specs.Numbers.{sizeMax}
+use Rattle.layout.specs.Layout.{BlockList, offsetAt}
 use Rattle.files.specs.declared.Table.{Table}
 use Rattle.files.specs.Table.{tableOk}
 use Rattle.window.specs.declared.Lookahead.{Lookahead}
 use Rattle.window.specs.declared.Answer.{Answer}
 use Rattle.window.specs.declared.Answer.the-variants as answer
-use Rattle.window.specs.Value.{lookaheadFits, validOf}
+use Rattle.window.specs.declared.Allocated.{Allocated}
 use Rattle.window.specs.Allocate.{allocOf}
 use Rattle.alloc.specs.Visits.{seenIn}
-use Rattle.alloc.specs.Allocate.{Ready}
+use Rattle.trials.specs.Loop.{Took, Block, None, Bad, Flash, Plan, Writing, Written, NoRoom, Corrupt, WriteOut, writeBy}
 use Rattle.grow.specs.declared.Growth.{Growth}
 use Rattle.grow.specs.declared.Growth.the-variants.{Grown, Full, Damaged, Refused}
-use Rattle.grow.specs.declared.Grew.{Grew}
-use Rattle.grow.specs.Supply.{Took, Block, None, Bad}
-use Rattle.grow.specs.Grow.{GrowOut, grow-out, growOf}
-use Rattle.layout.specs.Numbers.{sizeMax, accepted, damaged-card, invalid, no-space}
+use Rattle.grow.specs.Setting.{Setting, State, tested}
+use Rattle.grow.specs.Growth.{growth}
 
--- an allocation as a growth asks for it; behind the tests none is refused
+-- an allocation as a write asks for it; behind the tests none is refused
 abbrev pub tookOf : Answer → Lookahead → Took Lookahead
 tookOf (answer.Block k) w = Block k w
 tookOf answer.NoSpace w = None w
 tookOf answer.Damaged w = Bad w
 tookOf answer.Refused w = Bad w
 
--- the window, on a table's files
-unfoldable pub windowAlloc : ℕ → ℕ → ℕ → Table → Lookahead → List ℕ → Took Lookahead
-windowAlloc B N l t w img = tookOf (allocOf N l (seenIn B N img t) w .answer) (allocOf N l (seenIn B N img t) w .window)
+-- the window as an allocator: its scans visit the table's files
+abbrev pub allocIn : Setting → Table → Lookahead → List ℕ → Took Lookahead
+allocIn c t w img = let a : Allocated = allocOf (record { N = c .N; L = c .L }) (seenIn (record { B = c .B; N = c .N; image = img }) t) w in tookOf (a .answer) (a .window)
 
--- the growth from the window: each try passes a block, so the checkpoint count bounds them
-unfoldable pub extendIn : ℕ → ℕ → ℕ → List ℕ → Table → Lookahead → ℕ → ℕ → List ℕ → GrowOut Lookahead
-extendIn B N l health t w head s img = growOf (windowAlloc B N l t) (suc (w .ckpoint)) w health B N head s img
+-- the card of a call, as its write sees it
+abbrev pub flash : Setting → Table → Flash Lookahead
+flash c t = record { B = c .B; N = c .N; health = c .health; alloc = allocIn c t }
 
--- geometry, slices and L, then window and table, then the size: -22, all as it came
-unfoldable pub extendTested : ℕ → ℕ → ℕ → ℕ → List ℕ → Table → Lookahead → ℕ → Bool
-extendTested B N l len health t w s =
-    goodCard B N len && healthOk health N && lookaheadFits l && validOf w N l && tableOk t && leb s sizeMax
+-- what a growth leaves: its answer, the image, and the allocator
+pub record GrowOut (W : Type 0) : Type 0 where
+  pub answer : Growth
+  pub image : List ℕ
+  pub rest : W
 
--- one growth, for every input
-unfoldable pub extendOf : ℕ → ℕ → ℕ → List ℕ → Table → Lookahead → ℕ → ℕ → List ℕ → GrowOut Lookahead
-extendOf B N l health t w head s img =
-    elim (extendTested B N l (length img) health t w s) [
-      | true ↦ extendIn B N l health t w head s img
-      | false ↦ grow-out Refused img w
+abbrev pub grow-out : {W : Type 0} → Growth → List ℕ → W → GrowOut W
+grow-out a img w = record { answer = a; image = img; rest = w }
+
+-- a growth of a list of that size: one block, without data
+abbrev pub growing : ℕ → Plan
+growing size = record { until = suc size; trial = growth; reach = suc }
+
+-- the new last block, and where in it the next byte goes
+abbrev pub grewAs : Writing → ℕ → Growth
+grewAs (Written k s) off = Grown k off
+grewAs NoRoom off = Full
+grewAs Corrupt off = Damaged
+
+abbrev pub grewBy : {W : Type 0} → ℕ → WriteOut W → GrowOut W
+grewBy off o = grow-out (grewAs (o .answer) off) (o .image) (o .rest)
+
+-- One growth, for every input. Behind the first tests come those of the table and the size: -22, all as it came. The checkpoint count bounds the tries.
+unfoldable pub extendOf : Setting → State → BlockList → GrowOut Lookahead
+extendOf c st l =
+    elim (tested c st && tableOk (st .table) && leb (l .size) sizeMax) [
+      | false ↦ grow-out Refused (st .image) (st .window)
+      | true ↦
+          grewBy (offsetAt (c .B) (l .size))
+          (writeBy (flash c (st .table)) (growing (l .size)) (suc (st .window .ckpoint))
+          (record { head = l .head; size = l .size; image = st .image; rest = st .window }))
     ]
-
--- r is the answer and the window, and `after` the image, that a definition gives
-pub record GrewGives (o : GrowOut Lookahead) (r : Grew) (after : List ℕ) : Type 0 where
-  pub answer : r .answer ≡ o .answer
-  pub window : r .window ≡ o .rest
-  pub image : after ≡ o .image
-
--- behind the tests
-pub record Extending (B N l : ℕ) (image health : List ℕ) (t : Table) (w : Lookahead) (s : ℕ) : Type 0 where
-  pub ready : Ready B N l (length image) t w
-  pub known : N ≤ length health
-  pub fits : s ≤ sizeMax
-
--- 01's number and values for each case
-abbrev pub growthCode : Growth → ℤ
-growthCode (Grown k o) = accepted
-growthCode Full = no-space
-growthCode Damaged = damaged-card
-growthCode Refused = invalid
-
-abbrev pub growthBlock : Growth → ℕ
-growthBlock (Grown k o) = k
-growthBlock Full = 0
-growthBlock Damaged = 0
-growthBlock Refused = 0
-
-abbrev pub growthOffset : Growth → ℕ
-growthOffset (Grown k o) = o
-growthOffset Full = 0
-growthOffset Damaged = 0
-growthOffset Refused = 0

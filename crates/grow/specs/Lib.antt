@@ -1,6 +1,5 @@
 -- The definitions that the contracts of `grow` cite.
 pub mod Setting
-pub mod Supply
-pub mod Grow
-pub mod Attempt
+pub mod Growth
 pub mod Extend
+pub mod inner

@@ -7,7 +7,8 @@ use files::Table;
 use window::Answer;
 use window::Got;
 use window::Lookahead;
-ghost use Rattle.grow.specs.Extend.{extendIn, GrewGives, Extending};
+ghost use Rattle.grow.specs.inner.Extend.{extendIn, Extending};
+ghost use Rattle.grow.specs.inner.Gives.{GrewGives};
 
 // A growth with the files at hand: blocks are allocated until one takes the erase and the first program.
 pub(crate) fn extend_scan(

@@ -3,9 +3,9 @@ use crate::Growth;
 use device::Erased;
 use device::Programmed;
 ghost use Prim.Native.Nat.{_*_, _≤_};
-ghost use Rattle.device.specs.Bounds.{Blank};
-ghost use Rattle.grow.specs.Attempt.{putOf, attemptOf, tryOf, LinkGives, Linking};
+ghost use Rattle.grow.specs.inner.Attempt.{attemptOf, tryOf, LinkGives, Linking, putPointers};
 ghost use Rattle.layout.specs.Numbers.{sizeMax};
+ghost use Rattle.device.specs.inner.Bounds.{Blank};
 
 // What a try with one block gives: the growth's answer, or that the block refused.
 pub enum Linked {
@@ -25,7 +25,7 @@ fn put_pointers(
 ) -> Linked
     requires { ⌜ Linking b n k (now image) (now health) × (4 * count ≤ b) × Blank b k 0 (4 * count) (now image) ⌝ }
     ensures { λ r. ⌜ LinkGives
-        (putOf (now (health .entry)) b n k (4 * count) count 0 head (now (image .entry)))
+        (putPointers (now (health .entry)) b n k (4 * count) count 0 head (now (image .entry)))
         r (now (image .exit)) ⌝ }
 {
     let mut cur = head;

@@ -7,7 +7,9 @@ use files::Table;
 use layout::Geometry;
 use window::Lookahead;
 ghost use mathlib.Core.Path.{_≡_};
-ghost use Rattle.grow.specs.Extend.{extendTested, extendOf, GrewGives};
+ghost use Rattle.grow.specs.Extend.{extendOf};
+ghost use Rattle.grow.specs.inner.Extend.{extendTested};
+ghost use Rattle.grow.specs.inner.Gives.{GrewGives};
 
 // What a growth answers.
 pub enum Growth {
@@ -69,7 +71,10 @@ pub fn ctz_extend(
     size: u32,
 ) -> Grew
     ensures { λ r. ⌜ GrewGives
-        (extendOf (g .«block_size») (g .«block_count») l (now (health .entry)) t w head size (now (image .entry)))
+        (extendOf
+        (record { B = g .«block_size»; N = g .«block_count»; L = l; health = now (health .entry) })
+        (record { window = w; table = t; image = now (image .entry) })
+        (record { head = head; size = size }))
         r (now (image .exit)) ⌝ }
 {
     if valid_extend(g, l, image.len(), health, t, w, size) {

@@ -6,10 +6,11 @@ use native.Mathlib.Nat.{le-antisymm, le-of-dvd, dvd-add, dvd-sub, dvd-refl, pow-
 use native.Mathlib.Decide.{decLt}
 use native.Mathlib.Omega.{arith}
 use lib.Pow.{pow-pos}
-use Rattle.hops.specs.Walk.{ctz, pick}
+use Rattle.hops.specs.Walk.{ctz, jump}
 use Rattle.hops.proofs.Powers.{pow-dvd, dvd-down, pow-below, clears}
 use Rattle.hops.proofs.Digits.{dvd-of-ctz, ctz-of-dvd}
 use Rattle.hops.proofs.Greedy.{Best, pick-best}
+use Rattle.hops.specs.inner.Ways.{way}
 
 -- one hop up by the lowest set digit makes the next power divide
 carries : (x i : ℕ) → 0 < i → 2 ^ x ∣ i → ¬ (2 ^ suc x ∣ i) → 2 ^ suc x ∣ i + 2 ^ x
@@ -42,23 +43,23 @@ module _ (i : ℕ) (p : 0 < i) where
       carries (ctz i) i p stored (λ d. let z : suc (ctz i) ≤ ctz i = ctz-of-dvd 32 i (suc (ctz i)) (omega arith) d in omega arith)
 
 -- above i + 2 ^ ctz i the walk to i and the walk to that index take the same pointer
-pub pick-through : (c i : ℕ) → c < 2 ^ 32 → 0 < i → i + 2 ^ ctz i < c → pick c i ≡ pick c (i + 2 ^ ctz i)
+pub pick-through : (c i : ℕ) → c < 2 ^ 32 → 0 < i → i + 2 ^ ctz i < c → jump (way c i) ≡ jump (way c (i + 2 ^ ctz i))
 pick-through c i h p l =
-    let near : Best i c (pick c i) = pick-best c i h (omega arith) in
-    let far : Best (i + 2 ^ ctz i) c (pick c (i + 2 ^ ctz i)) = pick-best c (i + 2 ^ ctz i) h l in
-    le-antisymm (far .best (pick c i) (near .stored) (reaches c i (ctz i) (pick c i) (beyond i p (omega arith)) (near .stored) (near .reach) l))
-    (near .best (pick c (i + 2 ^ ctz i)) (far .stored) (omega (arith, far .reach)))
+    let near : Best i c (jump (way c i)) = pick-best c i h (omega arith) in
+    let far : Best (i + 2 ^ ctz i) c (jump (way c (i + 2 ^ ctz i))) = pick-best c (i + 2 ^ ctz i) h l in
+    le-antisymm (far .best (jump (way c i)) (near .stored) (reaches c i (ctz i) (jump (way c i)) (beyond i p (omega arith)) (near .stored) (near .reach) l))
+    (near .best (jump (way c (i + 2 ^ ctz i))) (far .stored) (omega (arith, far .reach)))
 
 -- and from there the last hop is pointer ctz i
-pub pick-last : (i : ℕ) → 0 < i → i + 2 ^ ctz i < 2 ^ 32 → pick (i + 2 ^ ctz i) i ≡ ctz i
+pub pick-last : (i : ℕ) → 0 < i → i + 2 ^ ctz i < 2 ^ 32 → jump (way (i + 2 ^ ctz i) i) ≡ ctz i
 pick-last i p h =
-    let b : Best i (i + 2 ^ ctz i) (pick (i + 2 ^ ctz i) i) = pick-best (i + 2 ^ ctz i) i h (omega (arith, pow-pos (ctz i))) in
+    let b : Best i (i + 2 ^ ctz i) (jump (way (i + 2 ^ ctz i) i)) = pick-best (i + 2 ^ ctz i) i h (omega (arith, pow-pos (ctz i))) in
     le-antisymm (pow-below {n = 2 ^ ctz i} (omega (arith, b .reach)) (omega (arith, pow-suc 2 (ctz i), pow-pos (ctz i))))
     (b .best (ctz i) (dvd-add (2 ^ ctz i) (stored i p) (dvd-refl (2 ^ ctz i))) (omega arith))
 
 -- to the index before it leads pointer 0
-pub pick-next : (i : ℕ) → suc i < 2 ^ 32 → pick (suc i) i ≡ 0
+pub pick-next : (i : ℕ) → suc i < 2 ^ 32 → jump (way (suc i) i) ≡ 0
 pick-next i h =
-    let b : Best i (suc i) (pick (suc i) i) = pick-best (suc i) i h (omega arith) in
-    let z : pick (suc i) i ≤ 0 = pow-below {n = 1} (omega (arith, b .reach)) (omega arith) in
+    let b : Best i (suc i) (jump (way (suc i) i)) = pick-best (suc i) i h (omega arith) in
+    let z : jump (way (suc i) i) ≤ 0 = pow-below {n = 1} (omega (arith, b .reach)) (omega arith) in
     omega arith

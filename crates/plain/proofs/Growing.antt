@@ -7,11 +7,11 @@ use lib.Pow.{pow-pos}
 use Rattle.hops.proofs.Powers.{pow-below, dvd-down}
 use Rattle.hops.proofs.Digits.{dvd-of-ctz, ctz-of-dvd}
 use Rattle.hops.specs.Walk.{ctz}
-use Rattle.ctz.specs.Lists.{at, Sound}
-use Rattle.plain.specs.Growth.{link}
 use Rattle.plain.proofs.Walks.{at-top, agree-all}
+use Rattle.ctz.proofs.Sounds.{SoundOver, at}
+use Rattle.plain.proofs.Same.{link}
 
-module _ {ptr : ℕ → ℕ → ℕ} {N head top : ℕ} (s : Sound ptr N head top) where
+module _ {ptr : ℕ → ℕ → ℕ} {N head top : ℕ} (s : SoundOver ptr N head top) where
   abbrev blk : ℕ → ℕ
   blk i = at ptr head top i
 

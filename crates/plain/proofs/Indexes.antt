@@ -9,14 +9,15 @@ use native.Mathlib.Omega.{arith}
 use borrow.Author.Tests.{ltb-true, ltb-false}
 use lib.Dec.{ltb, leb}
 use lib.ListN.{length}
-use Rattle.layout.specs.Layout.{InBlock, onward, indexAt, offsetAt, start}
-use Rattle.layout.specs.Place.{Served}
+use Rattle.layout.specs.Layout.{onward, indexAt, offsetAt, start}
 use Rattle.layout.proofs.Laws.{start-mono}
 use Rattle.layout.proofs.Places.{start-suc, index-mono, offset-of}
 use Rattle.layout.proofs.Served.{served, index-in, index-found, index-below}
-use Rattle.card.specs.Card.{Card}
 use Rattle.card.proofs.Cards.{card}
-use Rattle.plain.specs.Lists.{Good}
+use Rattle.layout.specs.inner.Served.{Served}
+use Rattle.layout.proofs.InBlock.{InBlock}
+use Rattle.card.specs.inner.Cards.{CardFacts}
+use Rattle.plain.specs.inner.Forms.{GoodList}
 
 -- the index of a position is at most that of the last
 pub index-le : (B size p : ℕ) → p < size → indexAt B p ≤ indexAt B (size - 1)
@@ -66,9 +67,9 @@ module _ (B p d : ℕ) (word : Served B (p + d)) (room : offsetAt B p + d < B) w
 
 -- ---- the positions of a file that no list call refuses
 
-module _ {B N : ℕ} {image : List ℕ} {size : ℕ} (g : Good B N image size) where
+module _ {B N : ℕ} {image : List ℕ} {size : ℕ} (g : GoodList B N image size) where
   -- the card's numbers
-  pub card-of : Card B N (length image)
+  pub card-of : CardFacts B N (length image)
   card-of = card B N (length image) (g .good)
 
   -- each position up to the size is answered by the layout

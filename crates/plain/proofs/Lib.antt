@@ -1,4 +1,5 @@
 -- The theorems on sound lists.
+pub mod Same
 pub mod Walks
 pub mod Lookups
 pub mod Countdowns

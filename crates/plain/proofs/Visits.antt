@@ -8,10 +8,11 @@ use borrow.Author.Tests.{lt-ltb, eqb-false}
 use lib.Count.{trailingZeros}
 use lib.Dec.{eqb}
 use Rattle.hops.specs.Walk.{ctz}
-use Rattle.ctz.specs.Lists.{at, Sound}
-use Rattle.ctz.specs.Visits.{Visited, visit, hand, nextBlock, nextAfter, reads-two}
-use Rattle.plain.specs.Lists.{countdown}
+use Rattle.ctz.specs.Visits.{Visited}
 use Rattle.plain.proofs.Walks.{at-top, at-next}
+use Rattle.ctz.specs.inner.Held.{visitHeld, reads-two, nextBlock, nextAfter, handOn}
+use Rattle.ctz.proofs.Sounds.{SoundOver, at}
+use Rattle.plain.proofs.Same.{countdown}
 
 -- an even number has a trailing zero
 ctz-even : (n : ℕ) → n % 2 ≡ 0 → 1 ≤ ctz n
@@ -20,15 +21,15 @@ ctz-even n e = rw e (omega arith)
 
 -- one turn of the visit
 visit-turn : (ptr : ℕ → ℕ → ℕ) (N i k : ℕ) → k < N → (held : Bool) (after : ℕ)
-    → visit ptr N (suc i) k held after
-    ≡ hand k (visit ptr N i (nextBlock ptr k held after) (reads-two (suc i) held) (nextAfter ptr k (reads-two (suc i) held)))
-unfolding visit
-visit-turn ptr N i k h held after = rw (visit, lt-ltb k N h)
+    → visitHeld ptr N (suc i) k held after
+    ≡ handOn k (visitHeld ptr N i (nextBlock ptr k held after) (reads-two (suc i) held) (nextAfter ptr k (reads-two (suc i) held)))
+unfolding visitHeld
+visit-turn ptr N i k h held after = rw (visitHeld, lt-ltb k N h)
 
 abbrev whole : List ℕ → Visited
 whole l = record { handed = l; clean = true }
 
-module _ {ptr : ℕ → ℕ → ℕ} {N head top : ℕ} (s : Sound ptr N head top) where
+module _ {ptr : ℕ → ℕ → ℕ} {N head top : ℕ} (s : SoundOver ptr N head top) where
   abbrev blk : ℕ → ℕ
   blk i = at ptr head top i
 
@@ -55,16 +56,16 @@ module _ {ptr : ℕ → ℕ → ℕ} {N head top : ℕ} (s : Sound ptr N head to
           let odd = eqb-false (suc i % 2) 1 o in
           λ z j q. s .agree (suc i) 1 (omega arith) h (omega arith) (ctz-even (suc i) (omega arith)) ∙ ap blk (omega arith)
 
-  visit-from : (i : ℕ) → i ≤ top → (held : Bool) (after : ℕ) → Held i held after → visit ptr N i (blk i) held after ≡ whole (countdown blk i)
-  unfolding visit countdown
-  visit-from zero h held after e = rw (visit, lt-ltb (blk 0) N (s .below 0 h))
+  visit-from : (i : ℕ) → i ≤ top → (held : Bool) (after : ℕ) → Held i held after → visitHeld ptr N i (blk i) held after ≡ whole (countdown blk i)
+  unfolding visitHeld countdown
+  visit-from zero h held after e = rw (visitHeld, lt-ltb (blk 0) N (s .below 0 h))
   visit-from (suc i) h held after e =
       let two = reads-two (suc i) held in
       let later = nextAfter ptr (blk (suc i)) two in
       visit-turn ptr N i (blk (suc i)) (s .below (suc i) h) held after
-      ∙ ap (λ (k : ℕ). hand (blk (suc i)) (visit ptr N i k two later)) (next-block i h held after e)
-      ∙ ap (hand (blk (suc i))) (visit-from i (omega arith) two later (next-held i h held))
+      ∙ ap (λ (k : ℕ). handOn (blk (suc i)) (visitHeld ptr N i k two later)) (next-block i h held after e)
+      ∙ ap (handOn (blk (suc i))) (visit-from i (omega arith) two later (next-held i h held))
 
   -- the visit hands over exactly at top, .., at 0, and meets no -84
-  pub visited : visit ptr N top head false 0 ≡ whole (countdown blk top)
-  visited = ap (λ (k : ℕ). visit ptr N top k false 0) (sym (at-top ptr head top)) ∙ visit-from top (omega arith) false 0 (free top 0)
+  pub visited : visitHeld ptr N top head false 0 ≡ whole (countdown blk top)
+  visited = ap (λ (k : ℕ). visitHeld ptr N top k false 0) (sym (at-top ptr head top)) ∙ visit-from top (omega arith) false 0 (free top 0)

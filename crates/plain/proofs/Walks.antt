@@ -4,7 +4,8 @@ use Prim.Native.Nat.{ℕ, zero, suc, _+_, _-_, _^_, _≤_, _<_}
 use native.Mathlib.Nat.{sub-self, add-zero, add-suc}
 use native.Mathlib.Omega.{arith}
 use Rattle.hops.specs.Walk.{ctz}
-use Rattle.ctz.specs.Lists.{down, at, Sound}
+use Rattle.ctz.specs.Lists.{down}
+use Rattle.ctz.proofs.Sounds.{SoundOver, at}
 
 module _ (ptr : ℕ → ℕ → ℕ) where
   -- so many indexes further down
@@ -28,7 +29,7 @@ module _ (ptr : ℕ → ℕ → ℕ) where
     pub at-cut : (i j : ℕ) → i ≤ j → j ≤ top → at ptr (at ptr head top j) j i ≡ at ptr head top i
     at-cut i j h l = down-add head (top - j) (j - i) ∙ ap (down ptr head) (omega arith)
 
-module _ {ptr : ℕ → ℕ → ℕ} {N head top : ℕ} (s : Sound ptr N head top) where
+module _ {ptr : ℕ → ℕ → ℕ} {N head top : ℕ} (s : SoundOver ptr N head top) where
   -- every stored pointer of a sound list agrees, pointer 0 too
   pub agree-all : (i x : ℕ) → i ≤ top → 0 < i → x ≤ ctz i → ptr (at ptr head top i) x ≡ at ptr head top (i - 2 ^ x)
   agree-all zero x h p l = absurd (omega arith)
@@ -36,7 +37,7 @@ module _ {ptr : ℕ → ℕ → ℕ} {N head top : ℕ} (s : Sound ptr N head to
   agree-all (suc i) (suc x) h p l = s .agree (suc i) (suc x) p h (omega arith) l
 
   -- a sound list cut shorter is sound
-  pub cut-sound : (j : ℕ) → j ≤ top → Sound ptr N (at ptr head top j) j
+  pub cut-sound : (j : ℕ) → j ≤ top → SoundOver ptr N (at ptr head top j) j
   cut-sound j h = record {
     below = λ i l. rw (at-cut ptr head top i j l h) (s .below i (omega arith));
     apart = λ i i′ l l′ e. s .apart i i′ (omega arith) (omega arith) (sym (at-cut ptr head top i j l h) ∙ e ∙ at-cut ptr head top i′ j l′ h);
@@ -65,7 +66,7 @@ module _ (ptr ptr′ : ℕ → ℕ → ℕ) (head top : ℕ) (a : Agrees ptr ptr
   at-frame i = down-frame (top - i) (omega arith)
 
   -- and is sound there
-  pub sound-frame : (N : ℕ) → Sound ptr N head top → Sound ptr′ N head top
+  pub sound-frame : (N : ℕ) → SoundOver ptr N head top → SoundOver ptr′ N head top
   sound-frame N s = record {
     below = λ i l. rw (at-frame i) (s .below i l);
     apart = λ i j l l′ e. s .apart i j l l′ (sym (at-frame i) ∙ e ∙ at-frame j);

@@ -1,7 +1,6 @@
--- The plain file of a list, and what the theorems on it speak of.
-pub mod Lists
+-- The plain file of a list, and what the theorems on it say.
 pub mod Bytes
 pub mod Reading
 pub mod Faults
 pub mod Demand
-pub mod Growth
+pub mod inner

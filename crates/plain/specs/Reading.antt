@@ -4,6 +4,8 @@ use mathlib.Core.List.{List, [], _++_}
 use Prim.Native.Nat.{ℕ, zero, suc, _+_, _-_, _*_, min}
 use lib.Dec.{ltb}
 use lib.ListN.{take, drop}
+use Rattle.layout.specs.Layout.{BlockSize, Position, BlockList}
+use Rattle.card.specs.Card.{Card}
 use Rattle.ctz.specs.declared.Found.{Found}
 use Rattle.ctz.specs.declared.Found.the-variants as found
 use Rattle.ctz.specs.Lookup.{walkTo}
@@ -14,22 +16,15 @@ pub data Part : Type 0 where
   Damaged : Part
   Refused : Part
 
--- A stretch: the bytes from a position to the end of its block or file, where the position was found.
-abbrev pub partOf : ℕ → ℕ → ℕ → Found → Part
-partOf B size p (found.At k off hops) = Given (k * B + off) (min (B - off) (size - p))
-partOf B size p found.Damaged = Part.Damaged
-partOf B size p found.Refused = Part.Refused
+-- from where the position was found to the end of its block, or of the file, which has `rest` bytes from there on
+abbrev pub partOf : BlockSize → ℕ → Found → Part
+partOf B rest (found.At k off hops) = Given (k * B + off) (min (B - off) rest)
+partOf B rest found.Damaged = Part.Damaged
+partOf B rest found.Refused = Part.Refused
 
--- Empty at or past the end. The empty part is at place 0.
-unfoldable pub stretchIn : List ℕ → ℕ → ℕ → ℕ → ℕ → ℕ → Part
-stretchIn image B N head size p =
-    elim (ltb p size) [ false ↦ Given 0 0 | true ↦ partOf B size p (walkTo image B N head size p) ]
-
--- the bytes of a part; a refusal gives the empty part too
-abbrev pub partBytes : List ℕ → Part → List ℕ
-partBytes image (Given place length) = take length (drop place image)
-partBytes image Part.Damaged = []
-partBytes image Part.Refused = []
+-- A stretch: the bytes from a position to the end of its block or file; empty at or past the end. The empty part is at place 0.
+unfoldable pub stretchIn : Card → BlockList → Position → Part
+stretchIn c l p = elim (ltb p (l .size)) [ false ↦ Given 0 0 | true ↦ partOf (c .B) (l .size - p) (walkTo c l p) ]
 
 -- the bytes that a read copies; or -84, -22
 pub data Got : Type 0 where
@@ -43,21 +38,33 @@ before part (Bytes rest) = Bytes (part ++ rest)
 before part Got.Damaged = Got.Damaged
 before part Got.Refused = Got.Refused
 
--- n bytes from position p on, block after block. Every block touched is looked up first: on -84 nothing is copied. f bounds the blocks.
-unfoldable pub gather : ℕ → List ℕ → ℕ → ℕ → ℕ → ℕ → ℕ → ℕ → Got
-gather zero image B N head size p n = Bytes []
-gather (suc f) image B N head size p n =
-    elim (ltb 0 n) [
+-- so many bytes from a position on
+pub record Range : Type 0 where
+  pub position : Position
+  pub length : ℕ
+
+-- what is left of a range behind its first n bytes
+abbrev pub behind : Range → ℕ → Range
+behind r n = record { position = r .position + n; length = r .length - n }
+
+-- The bytes of a range, block after block. Every block touched is looked up first: on -84 nothing is copied. Each block gives at least one byte, so
+-- f as large as the range's length never runs out.
+unfoldable pub gather : ℕ → Card → BlockList → Range → Got
+gather zero c l r = Bytes []
+gather (suc f) c l r =
+    elim (ltb 0 (r .length)) [
       | false ↦ Bytes []
-      | true ↦ elim (walkTo image B N head size p) [
+      | true ↦ elim (walkTo c l (r .position)) [
         | found.At k off hops ↦
-            before (take (min (B - off) n) (drop (k * B + off) image))
-            (gather f image B N head size (p + min (B - off) n) (n - min (B - off) n))
+            before (take (min (c .B - off) (r .length)) (drop (k * c .B + off) (c .image)))
+            (gather f c l (behind r (min (c .B - off) (r .length))))
         | found.Damaged ↦ Got.Damaged
         | found.Refused ↦ Got.Refused
       ]
     ]
 
--- Read gives min(room, size - position) bytes, 0 at or past the end.
-unfoldable pub readIn : List ℕ → ℕ → ℕ → ℕ → ℕ → ℕ → ℕ → Got
-readIn image B N head size p room = gather (min room (size - p)) image B N head size p (min room (size - p))
+-- Read gives min(room, size - position) bytes: the range's length is the room. At or past the end `-` stops at 0, and there are none.
+unfoldable pub readIn : Card → BlockList → Range → Got
+readIn c l r =
+    gather (min (r .length) (l .size - r .position)) c l
+    (record { position = r .position; length = min (r .length) (l .size - r .position) })

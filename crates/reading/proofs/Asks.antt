@@ -7,17 +7,17 @@ use borrow.Author.Tests.{lt-ltb, le-ltb, ltb-false}
 use lib.Dec.{ltb}
 use Rattle.card.specs.Card.{goodCard}
 use Rattle.card.proofs.Cards.{card}
-use Rattle.files.specs.Table.{file}
-use Rattle.files.specs.Find.{findOf}
+use Rattle.files.specs.Table.{file, findOf}
 use Rattle.files.specs.declared.Table.{Table}
 use Rattle.files.specs.declared.Found.{Found}
 use Rattle.files.specs.declared.Found.the-variants as found
 use Rattle.files.proofs.Laws.{count-ok, table-valid}
 use Rattle.files.proofs.Cases.{found-at}
-use Rattle.reading.specs.Bounds.{Listed}
+use Rattle.reading.specs.inner.Bounds.{Listed, filePosition}
 use Rattle.reading.specs.Calls.{askedOf}
 use Rattle.reading.specs.declared.Asked.the-variants as asked
 use Rattle.layout.specs.Numbers.{filesMax, sizeMax}
+use Rattle.layout.specs.inner.Served.{geometry}
 
 -- a file that is found stands in one of the slots, and its size is none too large
 pub found-slot : (t : Table) (number i : ℕ) → findOf t number ≡ found.At i → i < filesMax
@@ -27,41 +27,41 @@ pub found-size : (t : Table) (number i : ℕ) → findOf t number ≡ found.At i
 found-size t number i e = let h = found-at t number i e in table-valid t (h .ok) .size-le i (h .below)
 
 module _ (B N len : ℕ) (t : Table) (number p : ℕ) where
-  pub ask-card : goodCard B N len ≡ false → asked.Refused ≡ askedOf B N len t number p
+  pub ask-card : goodCard (geometry B N) len ≡ false → asked.Refused ≡ askedOf (geometry B N) len t (filePosition number p)
   unfolding askedOf
   ask-card g = rw (askedOf, g) refl
 
-  module _ (g : goodCard B N len ≡ true) where
-    pub ask-missing : findOf t number ≡ found.Missing → asked.Missing ≡ askedOf B N len t number p
+  module _ (g : goodCard (geometry B N) len ≡ true) where
+    pub ask-missing : findOf t number ≡ found.Missing → asked.Missing ≡ askedOf (geometry B N) len t (filePosition number p)
     unfolding askedOf
     ask-missing e = rw (askedOf, g, e) refl
 
-    pub ask-refused : findOf t number ≡ found.Refused → asked.Refused ≡ askedOf B N len t number p
+    pub ask-refused : findOf t number ≡ found.Refused → asked.Refused ≡ askedOf (geometry B N) len t (filePosition number p)
     unfolding askedOf
     ask-refused e = rw (askedOf, g, e) refl
 
-    pub ask-far : (i : ℕ) → findOf t number ≡ found.At i → sizeMax < p → asked.Refused ≡ askedOf B N len t number p
+    pub ask-far : (i : ℕ) → findOf t number ≡ found.At i → sizeMax < p → asked.Refused ≡ askedOf (geometry B N) len t (filePosition number p)
     unfolding askedOf
     ask-far i e h = rw (askedOf, g, e, lt-ltb sizeMax p h) refl
 
-    pub ask-file : (i : ℕ) → findOf t number ≡ found.At i → p ≤ sizeMax → asked.File (file t i .head) (file t i .size) ≡ askedOf B N len t number p
+    pub ask-file : (i : ℕ) → findOf t number ≡ found.At i → p ≤ sizeMax → asked.File (file t i .head) (file t i .size) ≡ askedOf (geometry B N) len t (filePosition number p)
     unfolding askedOf
     ask-file i e h = rw (askedOf, g, e, le-ltb sizeMax p h) refl
 
   -- what is known of a file that is handed on
   pub record Known (head size : ℕ) : Type 0 where
-    pub good : goodCard B N len ≡ true
+    pub good : goodCard (geometry B N) len ≡ true
     pub slot : ℕ
     pub place : findOf t number ≡ found.At slot
     pub head-is : file t slot .head ≡ head
     pub size-is : file t slot .size ≡ size
     pub near : p ≤ sizeMax
 
-  pub ask-tells : (head size : ℕ) → askedOf B N len t number p ≡ asked.File head size → Known head size
+  pub ask-tells : (head size : ℕ) → askedOf (geometry B N) len t (filePosition number p) ≡ asked.File head size → Known head size
   unfolding askedOf
-  ask-tells head size q = go (goodCard B N len) refl (findOf t number) refl (ltb sizeMax p) refl q
+  ask-tells head size q = go (goodCard (geometry B N) len) refl (findOf t number) refl (ltb sizeMax p) refl q
     where
-      go : (a : Bool) → goodCard B N len ≡ a → (w : Found) → findOf t number ≡ w → (b : Bool) → ltb sizeMax p ≡ b
+      go : (a : Bool) → goodCard (geometry B N) len ≡ a → (w : Found) → findOf t number ≡ w → (b : Bool) → ltb sizeMax p ≡ b
           → elim a [
             | false ↦ asked.Refused
             | true ↦ elim w [
@@ -86,7 +86,7 @@ module _ (B N len : ℕ) (t : Table) (number p : ℕ) where
       go false g w e b h q = let z : _≡_ {A = ℕ} 0 1 = cc in absurd (omega arith)
 
   -- its list lies on a card, and its size is none too large
-  pub listed : (head size : ℕ) → askedOf B N len t number p ≡ asked.File head size → Listed B N size len
+  pub listed : (head size : ℕ) → askedOf (geometry B N) len t (filePosition number p) ≡ asked.File head size → Listed B N size len
   listed head size q =
       let k = ask-tells head size q in
       record { card = card B N len (k .good); most = omega (arith, found-size t number (k .slot) (k .place), k .size-is) }

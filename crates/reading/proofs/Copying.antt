@@ -10,16 +10,18 @@ use Rattle.layout.specs.Layout.{indexAt, offsetAt, pointers}
 use Rattle.layout.proofs.Bits.{trailing-lt}
 use Rattle.layout.proofs.Laws.{pointers-pos}
 use Rattle.layout.proofs.Places.{index-mono}
-use Rattle.card.specs.Blocks.{pointer}
 use Rattle.ctz.specs.Lookup.{walkTo}
-use Rattle.ctz.specs.Runs.{Finds}
 use Rattle.ctz.specs.declared.Found.the-variants as found
 use Rattle.plain.specs.Reading.{gather}
-use Rattle.reading.specs.Bounds.{Ranged, Parted}
-use Rattle.reading.specs.Calls.{clean, bytesOf}
-use Rattle.reading.specs.Runs.{Reached, Indexed, Held, Turning, Turned, Cleared}
+use Rattle.reading.specs.inner.Bounds.{Ranged, Parted}
+use Rattle.reading.specs.inner.Runs.{Reached, Indexed, Held, Turning, Turned, Cleared, clean, gotBytes}
 use Rattle.reading.proofs.Gathers.{Step, step, offset-below, clean-turn, copy-keeps, copy-turn}
 use Rattle.reading.proofs.Positions.{indexed, found-at, part-next, clean-reached}
+use Rattle.card.specs.Card.{pointer}
+use Rattle.card.specs.inner.Cards.{cardWith}
+use Rattle.layout.specs.inner.Served.{blockList}
+use Rattle.ctz.specs.inner.Runs.{Finds}
+use Rattle.plain.specs.inner.Forms.{range}
 
 -- what every turn has: the list, and the buffer that came
 pub record Copying (image came : List ℕ) (B N head size pos count at top last : ℕ) (buffer blocks : List ℕ) (base i off p left to : ℕ) : Type 0 where
@@ -27,16 +29,16 @@ pub record Copying (image came : List ℕ) (B N head size pos count at top last 
   pub last-is : last ≡ indexAt B (pos + (count - 1))
   pub list : Indexed B N top last (length image)
   pub run : Ranged B N size p left (length image)
-  pub found : clean (gather left image B N head size p left) ≡ true
+  pub found : clean (gather left (cardWith B N image) (blockList head size) (range p left)) ≡ true
   pub end : p + left ≡ pos + count
   pub fits : to + left ≤ length buffer
   pub long : length buffer ≡ length came
   pub from : base ≤ i
   pub near : i ≤ suc last
-  pub reached : Reached (pointer image B) N head top i last
-  pub held : Held (pointer image B) N head top base last blocks
+  pub reached : Reached (pointer B image) N head top i last
+  pub held : Held (pointer B image) N head top base last blocks
   pub here : 0 < left → (i ≡ indexAt B p) × (off ≡ offsetAt B p)
-  pub whole : sets came at (bytesOf (gather count image B N head size pos count)) ≡ sets buffer to (bytesOf (gather left image B N head size p left))
+  pub whole : sets came at (gotBytes (gather count (cardWith B N image) (blockList head size) (range pos count))) ≡ sets buffer to (gotBytes (gather left (cardWith B N image) (blockList head size) (range p left)))
 
 -- how the pass begins
 pub begins : {image buffer blocks : List ℕ} {B N head size p n to top first last off : ℕ} → Cleared image B N head size p n to (length buffer) blocks
@@ -55,7 +57,7 @@ begins {image} {blocks = blocks} {B = B} {N} {head} {size} {p} {n} {top = top} {
       long = refl;
       from = omega arith;
       near = omega (arith, f, g, index-mono B p (p + (n - 1)) (omega arith));
-      reached = λ x l u. subst (λ (y : ℕ). (k : ℕ) × Finds (pointer image B) N head y x k) (sym e) (m x (omega arith) (omega arith));
+      reached = λ x l u. subst (λ (y : ℕ). (k : ℕ) × Finds (pointer B image) N head y x k) (sym e) (m x (omega arith) (omega arith));
       held = rw (e, f, g) (r .noted);
       here = λ more. (f, o);
       whole = refl;
@@ -75,17 +77,17 @@ module _ {image came : List ℕ} {B N head size pos count at top last : ℕ} {bu
   pub turning : Turning image B N head top base i last blocks
   turning = record { list = c .list; from = c .from; inside = inside; reached = c .reached; held = c .held }
 
-  module _ {base′ : ℕ} {blocks′ : List ℕ} (t : Turned (pointer image B) N head top base′ i last blocks′) where
+  module _ {base′ : ℕ} {blocks′ : List ℕ} (t : Turned (pointer B image) N head top base′ i last blocks′) where
     -- the block that holds the position
     abbrev pub block : ℕ
     block = getD blocks′ (i - base′) 0
 
-    pub at-block : (h : ℕ) × (walkTo image B N head size p ≡ found.At block off h)
+    pub at-block : (h : ℕ) × (walkTo (cardWith B N image) (blockList head size) p ≡ found.At block off h)
     at-block =
         let e : base′ + (i - base′) ≡ indexAt B p = omega (arith, t .from, c .here some .0) in
         let f = t .held .block (i - base′) (omega (arith, t .among, t .from)) (omega (arith, t .from, inside)) in
-        let f′ = subst (λ (y : ℕ). Finds (pointer image B) N head y (base′ + (i - base′)) block) (c .top-is) f in
-        let g = found-at image head (c .run) some (subst (λ (y : ℕ). Finds (pointer image B) N head (indexAt B (size - 1)) y block) e f′) in
+        let f′ = subst (λ (y : ℕ). Finds (pointer B image) N head y (base′ + (i - base′)) block) (c .top-is) f in
+        let g = found-at image head (c .run) some (subst (λ (y : ℕ). Finds (pointer B image) N head (indexAt B (size - 1)) y block) e f′) in
         (g .0, g .1 ∙ ap (λ (o : ℕ). found.At block o (g .0)) (sym (c .here some .1)))
 
     pub offset-less : off < B

@@ -8,7 +8,7 @@ use native.Mathlib.Omega.{arith}
 use lib.ListN.{length, take, drop, length-drop}
 use lib.Seq.{length-take-le, take-take, take-nil, drop-drop}
 use Rattle.plain.specs.Reading.{Got, Bytes, before}
-use Rattle.reading.specs.Calls.{clean, bytesOf}
+use Rattle.reading.specs.inner.Runs.{clean, gotBytes}
 
 -- ---- a part, then the rest
 
@@ -17,7 +17,7 @@ clean-before part (Bytes rest) = refl
 clean-before part Got.Damaged = refl
 clean-before part Got.Refused = refl
 
-pub bytes-before : (part : List ℕ) (g : Got) → clean g ≡ true → bytesOf (before part g) ≡ part ++ bytesOf g
+pub bytes-before : (part : List ℕ) (g : Got) → clean g ≡ true → gotBytes (before part g) ≡ part ++ gotBytes g
 bytes-before part (Bytes rest) e = refl
 bytes-before part Got.Damaged e = let z : _≡_ {A = ℕ} 0 1 = cc in absurd (omega arith)
 bytes-before part Got.Refused e = let z : _≡_ {A = ℕ} 0 1 = cc in absurd (omega arith)

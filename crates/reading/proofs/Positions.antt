@@ -10,12 +10,9 @@ use borrow.Author.Tests.{ltb-true, ltb-false}
 use lib.Dec.{ltb}
 use lib.ListN.{length}
 use Rattle.layout.specs.Layout.{indexAt, offsetAt, pointers}
-use Rattle.layout.specs.Place.{Served}
 use Rattle.layout.proofs.Places.{Next, Same, next-place, index-mono, offset-inside}
 use Rattle.layout.proofs.Served.{served, index-in, index-below}
-use Rattle.card.specs.Blocks.{pointer}
 use Rattle.ctz.specs.Lookup.{walkTo}
-use Rattle.ctz.specs.Runs.{seek, Finds}
 use Rattle.ctz.specs.declared.Found.{Found}
 use Rattle.ctz.specs.declared.Found.the-variants as found
 use Rattle.ctz.proofs.Lookups.{walk-is, found-tells}
@@ -23,11 +20,15 @@ use Rattle.ctz.proofs.Room.{walks}
 use Rattle.ctz.proofs.Through.{walk-offset}
 use Rattle.plain.specs.Reading.{gather}
 use Rattle.plain.proofs.Indexes.{run-index, run-offset}
-use Rattle.reading.specs.Bounds.{Ranged}
-use Rattle.reading.specs.Calls.{clean}
-use Rattle.reading.specs.Runs.{Reached, Tested, Indexed}
+use Rattle.reading.specs.inner.Bounds.{Ranged}
+use Rattle.reading.specs.inner.Runs.{Reached, Tested, Indexed, clean}
 use Rattle.reading.proofs.Parts.{never-both}
 use Rattle.reading.proofs.Gathers.{sought, never-refused, step, clean-turn, all-none, all-damaged}
+use Rattle.layout.specs.inner.Served.{Served, blockList}
+use Rattle.card.specs.Card.{pointer}
+use Rattle.card.specs.inner.Cards.{cardWith}
+use Rattle.ctz.specs.inner.Runs.{seek, Finds}
+use Rattle.plain.specs.inner.Forms.{range}
 
 -- the list of a run of positions can be walked
 pub indexed : {B N size p n len : ℕ} → Ranged B N size p n len → 0 < n → {top last : ℕ} → top ≡ indexAt B (size - 1) → last ≡ indexAt B (p + (n - 1))
@@ -46,18 +47,18 @@ ordered {B} {p = p} {n = n} r some e f = omega (arith, e, f, index-mono B p (p +
 
 module _ (image : List ℕ) (head : ℕ) {B N size p n : ℕ} (r : Ranged B N size p n (length image)) (some : 0 < n) where
   -- the lookup of a position is that of its index
-  pub found-at : {k : ℕ} → Finds (pointer image B) N head (indexAt B (size - 1)) (indexAt B p) k
-      → (h : ℕ) × (walkTo image B N head size p ≡ found.At k (offsetAt B p) h)
+  pub found-at : {k : ℕ} → Finds (pointer B image) N head (indexAt B (size - 1)) (indexAt B p) k
+      → (h : ℕ) × (walkTo (cardWith B N image) (blockList head size) p ≡ found.At k (offsetAt B p) h)
   found-at f = (
     f .0,
     sym (walk-is B N image head size p (indexAt B (size - 1)) (indexAt B p) (offsetAt B p) refl refl refl)
-        ∙ walk-offset (pointer image B) N 0 (offsetAt B p) _ _ _ _ _ (f .1),
+        ∙ walk-offset (pointer B image) N 0 (offsetAt B p) _ _ _ _ _ (f .1),
   )
 
-  pub at-found : {k off h : ℕ} → walkTo image B N head size p ≡ found.At k off h → Finds (pointer image B) N head (indexAt B (size - 1)) (indexAt B p) k
+  pub at-found : {k off h : ℕ} → walkTo (cardWith B N image) (blockList head size) p ≡ found.At k off h → Finds (pointer B image) N head (indexAt B (size - 1)) (indexAt B p) k
   at-found {h = h} e = (
     h,
-    walk-offset (pointer image B) N (offsetAt B p) 0 _ _ _ _ _
+    walk-offset (pointer B image) N (offsetAt B p) 0 _ _ _ _ _
         (walk-is B N image head size p (indexAt B (size - 1)) (indexAt B p) (offsetAt B p) refl refl refl ∙ e),
   )
 
@@ -93,10 +94,10 @@ module _ (image : List ℕ) (head : ℕ) {B N size p n : ℕ} (r : Ranged B N si
 module _ (image : List ℕ) (head B N size : ℕ) where
   -- the indexes of the n positions from p on
   abbrev pub Run : ℕ → ℕ → Type 0
-  Run p n = Reached (pointer image B) N head (indexAt B (size - 1)) (indexAt B p) (indexAt B (p + (n - 1)))
+  Run p n = Reached (pointer B image) N head (indexAt B (size - 1)) (indexAt B p) (indexAt B (p + (n - 1)))
 
   abbrev Clean : ℕ → ℕ → Type 0
-  Clean p n = clean (gather n image B N head size p n) ≡ true
+  Clean p n = clean (gather n (cardWith B N image) (blockList head size) (range p n)) ≡ true
 
   clean-many : (f p n : ℕ) → n ≤ f → Ranged B N size p n (length image) → (0 < n → Run p n) → Clean p n
   clean-many zero p n hf r w = ap clean (all-none image B N head size p n hf)
@@ -122,11 +123,11 @@ module _ (image : List ℕ) (head B N size : ℕ) where
 
   reached-many : (f p n : ℕ) → n ≤ f → 0 < n → Ranged B N size p n (length image) → Clean p n → Run p n
   reached-many zero p n hf some r c x l u = absurd (omega arith)
-  reached-many (suc f) p n hf some r c x l u = go (walkTo image B N head size p) refl (reached-many f)
+  reached-many (suc f) p n hf some r c x l u = go (walkTo (cardWith B N image) (blockList head size) p) refl (reached-many f)
     where
-      go : (w : Found) → walkTo image B N head size p ≡ w
+      go : (w : Found) → walkTo (cardWith B N image) (blockList head size) p ≡ w
           → ((p n : ℕ) → n ≤ f → 0 < n → Ranged B N size p n (length image) → Clean p n → Run p n)
-          → (k : ℕ) × Finds (pointer image B) N head (indexAt B (size - 1)) x k
+          → (k : ℕ) × Finds (pointer B image) N head (indexAt B (size - 1)) x k
       go found.Damaged e ih = absurd (never-both c (ap clean (all-damaged image B N head size p n some e)))
       go found.Refused e ih = absurd (never-refused image head r some e)
       go (found.At k off h) e ih = ⊎-elim first further (eq-or-lt-of-le l)
@@ -137,10 +138,10 @@ module _ (image : List ℕ) (head B N size : ℕ) where
           q : min (B - off) n ≡ min (B - offsetAt B p) n
           q = ap (λ (y : ℕ). min (B - y) n) o
 
-          first : indexAt B p ≡ x → (k : ℕ) × Finds (pointer image B) N head (indexAt B (size - 1)) x k
-          first y = (k, subst (λ (y : ℕ). Finds (pointer image B) N head (indexAt B (size - 1)) y k) y (at-found image head r some e))
+          first : indexAt B p ≡ x → (k : ℕ) × Finds (pointer B image) N head (indexAt B (size - 1)) x k
+          first y = (k, subst (λ (y : ℕ). Finds (pointer B image) N head (indexAt B (size - 1)) y k) y (at-found image head r some e))
 
-          behind : (t : Bool) → ltb (min (B - off) n) n ≡ t → indexAt B p < x → (k : ℕ) × Finds (pointer image B) N head (indexAt B (size - 1)) x k
+          behind : (t : Bool) → ltb (min (B - off) n) n ≡ t → indexAt B p < x → (k : ℕ) × Finds (pointer B image) N head (indexAt B (size - 1)) x k
           behind false t y = absurd (omega (arith, part-whole image head r some (min (B - off) n) q (ltb-false (min (B - off) n) n t)))
           behind true t y =
               let b = ltb-true (min (B - off) n) n t in
@@ -150,7 +151,7 @@ module _ (image : List ℕ) (head B N size : ℕ) where
               (sym (clean-turn image head r some (min (B - off) n) e refl) ∙ c)
               x (omega (arith, part-next image head r some (min (B - off) n) q b .0)) (omega (arith, ap (indexAt B) w))
 
-          further : indexAt B p < x → (k : ℕ) × Finds (pointer image B) N head (indexAt B (size - 1)) x k
+          further : indexAt B p < x → (k : ℕ) × Finds (pointer B image) N head (indexAt B (size - 1)) x k
           further y = behind (ltb (min (B - off) n) n) refl y
 
   pub clean-reached : (p n : ℕ) → 0 < n → Ranged B N size p n (length image) → Clean p n → Run p n
@@ -158,18 +159,18 @@ module _ (image : List ℕ) (head B N size : ℕ) where
 
   -- so the test of the indexes is that of the run
   pub tested-clean : (p n : ℕ) {top first last : ℕ} (w : Bool) → 0 < n → Ranged B N size p n (length image)
-      → top ≡ indexAt B (size - 1) → first ≡ indexAt B p → last ≡ indexAt B (p + (n - 1)) → Tested (pointer image B) N head top first last w
-      → w ≡ clean (gather n image B N head size p n)
+      → top ≡ indexAt B (size - 1) → first ≡ indexAt B p → last ≡ indexAt B (p + (n - 1)) → Tested (pointer B image) N head top first last w
+      → w ≡ clean (gather n (cardWith B N image) (blockList head size) (range p n))
   tested-clean p n {top} {first} {last} true some r e f g t =
-      sym (reached-clean p n r (λ x l u. subst (λ (y : ℕ). (k : ℕ) × Finds (pointer image B) N head y x k) e (t .found refl x (omega arith) (omega arith))))
-  tested-clean p n {top} {first} {last} false some r e f g t = go (clean (gather n image B N head size p n)) refl
+      sym (reached-clean p n r (λ x l u. subst (λ (y : ℕ). (k : ℕ) × Finds (pointer B image) N head y x k) e (t .found refl x (omega arith) (omega arith))))
+  tested-clean p n {top} {first} {last} false some r e f g t = go (clean (gather n (cardWith B N image) (blockList head size) (range p n))) refl
     where
       clash : {k off h : ℕ} → found.Damaged ≡ found.At k off h → ⊥
       clash q = let z : _≡_ {A = ℕ} 0 1 = cc in omega arith
 
-      go : (b : Bool) → clean (gather n image B N head size p n) ≡ b → false ≡ b
+      go : (b : Bool) → clean (gather n (cardWith B N image) (blockList head size) (range p n)) ≡ b → false ≡ b
       go false q = refl
       go true q =
           let m = t .lost refl in
           let k = clean-reached p n some r q (m .0) (omega (arith, m .1 .0)) (omega (arith, m .1 .1)) in
-          absurd (clash (sym (m .1 .2) ∙ ap (λ (y : ℕ). seek (pointer image B) N head y (m .0)) e ∙ k .1 .1))
+          absurd (clash (sym (m .1 .2) ∙ ap (λ (y : ℕ). seek (pointer B image) N head y (m .0)) e ∙ k .1 .1))

@@ -8,11 +8,11 @@ use native.Mathlib.Omega.{arith}
 use borrow.Author.Tests.{ltb-true, ltb-false}
 use lib.Dec.{ltb}
 use lib.ListN.{getD}
-use Rattle.card.specs.Blocks.{pointer}
-use Rattle.ctz.specs.Runs.{Finds, RunGives}
 use Rattle.ctz.specs.declared.Found.the-variants as found
-use Rattle.reading.specs.Runs.{Tested, Held, Notable}
+use Rattle.reading.specs.inner.Runs.{Tested, Held, Notable}
 use Rattle.reading.proofs.Parts.{never-both}
+use Rattle.card.specs.Card.{pointer}
+use Rattle.ctz.specs.inner.Runs.{Finds, RunGives}
 
 -- ---- a run, then the next
 
@@ -65,7 +65,7 @@ run-noted {base = base} {last = last} w t l h q g =
     }
 
 pub noted : {image blocks : List ℕ} {B N head top base last room n : ℕ} (w : Bool) → Notable image B N head top base last room
-    → n ≡ min (last - base + 1) 1024 → RunGives (pointer image B) N head top base n room w blocks → Held (pointer image B) N head top base last blocks
+    → n ≡ min (last - base + 1) 1024 → RunGives (pointer B image) N head top base n room w blocks → Held (pointer B image) N head top base last blocks
 noted true a q g = run-noted true refl (a .long) (a .inside) q g
 noted {base = base} {last = last} {n = n} false a q g =
     let m = g .lost refl in

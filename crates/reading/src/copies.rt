@@ -8,9 +8,11 @@ ghost use Prim.Native.Nat.{_+_, _*_};
 ghost use lib.ListN.{length, take, drop};
 ghost use lib.Seq.{sets};
 ghost use Rattle.plain.specs.Reading.{gather};
-ghost use Rattle.reading.specs.Bounds.{Roomy, Parted};
-ghost use Rattle.reading.specs.Calls.{bytesOf, copiedOf};
-ghost use Rattle.reading.specs.Runs.{Cleared};
+ghost use Rattle.reading.specs.inner.Bounds.{Roomy, Parted};
+ghost use Rattle.reading.specs.inner.Runs.{Cleared, gotBytes, copiedOf};
+ghost use Rattle.card.specs.inner.Cards.{cardWith};
+ghost use Rattle.layout.specs.inner.Served.{blockList};
+ghost use Rattle.plain.specs.inner.Forms.{range};
 
 // A part of block k into a buffer, from place `to` on.
 fn copy_part(b: u32, image: &[u8], k: u32, offset: u32, part: u32, to: usize, buffer: &mut [u8])
@@ -41,7 +43,7 @@ fn copy_all(
     buffer: &mut [u8],
 )
     requires { ⌜ Cleared (now image) b n head size pos count at (length (now buffer)) (now blocks) ⌝ }
-    ensures { λ _. ⌜ now (buffer .exit) ≡ sets (now (buffer .entry)) at (bytesOf (gather count (now (image .entry)) b n head size pos count)) ⌝ }
+    ensures { λ _. ⌜ now (buffer .exit) ≡ sets (now (buffer .entry)) at (gotBytes (gather count (cardWith b n (now (image .entry))) (blockList head size) (range pos count))) ⌝ }
 {
     let top = layout::index_at(b, size - 1);
     let last = layout::index_at(b, pos + (count - 1));
@@ -86,7 +88,7 @@ pub fn copy_found(
     requires { ⌜ Roomy b n size pos count (length (now image)) (length (now buffer)) ⌝ }
     ensures { λ r. ⌜
         record { whole = r; after = now (buffer .exit) }
-        ≡ copiedOf (now (buffer .entry)) (gather count (now (image .entry)) b n head size pos count)
+        ≡ copiedOf (now (buffer .entry)) (gather count (cardWith b n (now (image .entry))) (blockList head size) (range pos count))
         ⌝ }
 {
     let found = ctz::find_in(b, n, image, head, size, pos);

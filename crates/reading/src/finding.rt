@@ -1,13 +1,13 @@
 // The blocks that hold the bytes of a read: every one is found before a byte is copied, and up to 1,024 are noted at a time.
 use crate::numbers::least;
 ghost use lib.ListN.{length};
-ghost use Rattle.card.specs.Blocks.{pointer};
-ghost use Rattle.reading.specs.Runs.{Indexed, Tested, Sought, Answered, Notable, Held, Turning, Turned};
+ghost use Rattle.reading.specs.inner.Runs.{Indexed, Tested, Answered, Notable, Held, Turning, Turned, RunSought};
+ghost use Rattle.card.specs.Card.{pointer};
 
 // Whether the lookups of the indexes from `first` to `last` find their blocks.
 fn found_from(b: u32, n: u32, image: &[u8], head: u32, top: u32, first: u32, last: u32) -> bool
     requires { ⌜ Indexed b n top last (length (now image)) ⌝ }
-    ensures { λ r. ⌜ Tested (pointer (now (image .entry)) b) n head top first last r ⌝ }
+    ensures { λ r. ⌜ Tested (pointer b (now (image .entry))) n head top first last r ⌝ }
 {
     let mut blocks: [u32; 1024] = [0; 1024];
     let mut i = first;
@@ -32,7 +32,7 @@ pub fn found_all(
     count: u32,
     blocks: &mut [u32; 1024],
 ) -> bool
-    requires { ⌜ Sought b n size pos count (length (now image)) (length (now blocks)) ⌝ }
+    requires { ⌜ RunSought b n size pos count (length (now image)) (length (now blocks)) ⌝ }
     ensures { λ r. ⌜ Answered (now (image .entry)) b n head size pos count r (now (blocks .exit)) ⌝ }
 {
     let top = layout::index_at(b, size - 1);
@@ -60,7 +60,7 @@ fn note(
     blocks: &mut [u32; 1024],
 )
     requires { ⌜ Notable (now image) b n head top base last (length (now blocks)) ⌝ }
-    ensures { λ _. ⌜ Held (pointer (now (image .entry)) b) n head top base last (now (blocks .exit)) ⌝ }
+    ensures { λ _. ⌜ Held (pointer b (now (image .entry))) n head top base last (now (blocks .exit)) ⌝ }
 {
     let part = least(last - base + 1, 1024);
     ctz::run::find_run(b, n, image, head, top, base, part, blocks);
@@ -79,7 +79,7 @@ pub fn turned(
     blocks: &mut [u32; 1024],
 ) -> u32
     requires { ⌜ Turning (now image) b n head top base i last (now blocks) ⌝ }
-    ensures { λ r. ⌜ Turned (pointer (now (image .entry)) b) n head top r i last (now (blocks .exit)) ⌝ }
+    ensures { λ r. ⌜ Turned (pointer b (now (image .entry))) n head top r i last (now (blocks .exit)) ⌝ }
 {
     if i - base < 1024 {
         return base;

@@ -8,8 +8,8 @@ use files::Found;
 use files::Table;
 use layout::Geometry;
 ghost use mathlib.Core.Path.{_≡_};
-ghost use Rattle.reading.specs.Codes.{placeOf, placedLength};
-ghost use Rattle.reading.specs.Calls.{askedOf, readOf, stretchOf, stretchBytes};
+ghost use Rattle.reading.specs.Calls.{askedOf, readOf, stretchOf, stretchBytes, placedPlace, placedLength};
+ghost use Rattle.card.specs.Card.{cardOf};
 
 // What a read answers.
 pub enum Reading {
@@ -42,7 +42,7 @@ enum Asked {
 
 // The tests before the card is read, in their order: geometry and slice, table, file number, no such file, position.
 fn ask(g: Geometry, len: usize, t: Table, number: u32, pos: u32) -> Asked
-    ensures { λ r. ⌜ r ≡ askedOf (g .«block_size») (g .«block_count») len t number pos ⌝ }
+    ensures { λ r. ⌜ r ≡ askedOf g len t (record { number = number; position = pos }) ⌝ }
 {
     if !card::good_card(g, len) {
         return Asked::Refused;
@@ -74,7 +74,7 @@ pub fn read(
 ) -> Reading
     ensures { λ r. ⌜
         record { answer = r; buffer = now (buffer .exit) }
-        ≡ readOf (g .«block_size») (g .«block_count») (now (image .entry)) t number pos (now (buffer .entry))
+        ≡ readOf (cardOf g (now (image .entry))) t (record { number = number; position = pos }) (now (buffer .entry))
         ⌝ }
 {
     match ask(g, image.len(), t, number, pos) {
@@ -94,7 +94,7 @@ pub fn read(
 
 // The place and length of a stretch: from a position to the end of its block or file; the empty part at place 0 at or past the end.
 pub fn stretch_place(g: Geometry, image: &[u8], t: Table, number: u32, pos: u32) -> Placed
-    ensures { λ r. ⌜ r ≡ stretchOf (g .«block_size») (g .«block_count») (now (image .entry)) t number pos ⌝ }
+    ensures { λ r. ⌜ r ≡ stretchOf (cardOf g (now (image .entry))) t (record { number = number; position = pos }) ⌝ }
 {
     match ask(g, image.len(), t, number, pos) {
         Asked::File { head, size } => list::place_in(
@@ -112,7 +112,7 @@ pub fn stretch_place(g: Geometry, image: &[u8], t: Table, number: u32, pos: u32)
 
 // The place of a stretch; 0 on a refusal.
 pub fn place_of(p: Placed) -> u32
-    ensures { λ r. ⌜ r ≡ placeOf p ⌝ }
+    ensures { λ r. ⌜ r ≡ placedPlace p ⌝ }
 {
     match p {
         Placed::Part { place, length: _ } => place,
@@ -136,7 +136,7 @@ pub fn length_of(p: Placed) -> u32
 
 // The stretch itself: the part of the caller's own image at that place, of that length; a refusal gives the empty part at place 0.
 pub fn stretch<'a>(g: Geometry, image: &'a [u8], t: Table, number: u32, pos: u32) -> &'a [u8]
-    ensures { λ r. ⌜ now r ≡ stretchBytes (now (image .entry)) (stretchOf (g .«block_size») (g .«block_count») (now (image .entry)) t number pos) ⌝ }
+    ensures { λ r. ⌜ now r ≡ stretchBytes (now (image .entry)) (stretchOf (cardOf g (now (image .entry))) t (record { number = number; position = pos })) ⌝ }
 {
     let placed = stretch_place(g, image, t, number, pos);
     let place = place_of(placed) as usize;

@@ -9,8 +9,11 @@ use ctz::Found;
 ghost use mathlib.Core.Path.{_≡_};
 ghost use lib.ListN.{length};
 ghost use Rattle.plain.specs.Reading.{readIn, stretchIn};
-ghost use Rattle.reading.specs.Bounds.{Listed};
+ghost use Rattle.reading.specs.inner.Bounds.{Listed};
 ghost use Rattle.reading.specs.Calls.{given, placedOf};
+ghost use Rattle.card.specs.inner.Cards.{cardWith};
+ghost use Rattle.layout.specs.inner.Served.{blockList};
+ghost use Rattle.plain.specs.inner.Forms.{range};
 
 // Read: every block touched is looked up before a byte is copied.
 pub fn read_in(
@@ -25,7 +28,7 @@ pub fn read_in(
     requires { ⌜ Listed b n size (length (now image)) ⌝ }
     ensures { λ r. ⌜
         record { answer = r; buffer = now (buffer .exit) }
-        ≡ given (now (buffer .entry)) (readIn (now (image .entry)) b n head size pos (length (now (buffer .entry))))
+        ≡ given (now (buffer .entry)) (readIn (cardWith b n (now (image .entry))) (blockList head size) (range pos (length (now (buffer .entry)))))
         ⌝ }
 {
     let count = fitting(buffer.len(), remaining(size, pos));
@@ -41,7 +44,7 @@ pub fn read_in(
 // Stretch: from the place of a position to the end of its block or of the file.
 pub fn place_in(b: u32, n: u32, image: &[u8], head: u32, size: u32, pos: u32) -> Placed
     requires { ⌜ Listed b n size (length (now image)) ⌝ }
-    ensures { λ r. ⌜ r ≡ placedOf (stretchIn (now (image .entry)) b n head size pos) ⌝ }
+    ensures { λ r. ⌜ r ≡ placedOf (stretchIn (cardWith b n (now (image .entry))) (blockList head size) pos) ⌝ }
 {
     if size <= pos {
         return Placed::Part {

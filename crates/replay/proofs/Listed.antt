@@ -8,7 +8,6 @@ use native.Mathlib.Omega.{arith}
 use borrow.Author.Tests.{eq-eqb, ne-eqb}
 use Rattle.layout.specs.declared.Geometry.{Geometry}
 use Rattle.layout.specs.declared.Place.{Place}
-use Rattle.layout.specs.Place.{placeOf}
 use Rattle.ctz.specs.Lookup.{lookupOf}
 use Rattle.ctz.specs.Visits.{beginOf, traverseOf}
 use Rattle.ctz.specs.declared.Found.{Found}
@@ -17,41 +16,52 @@ use Rattle.ctz.specs.declared.visit.Begun.{Begun}
 use Rattle.ctz.specs.declared.visit.Begun.the-variants as begun
 use Rattle.ctz.specs.declared.visit.Step.{Step}
 use Rattle.ctz.specs.declared.visit.Step.the-variants as step
-use Rattle.replay.specs.Records.{wordOf, geometryOf, imageOf}
-use Rattle.replay.specs.Agreement.{toldOf}
-use Rattle.replay.specs.Lists.{placeTold, indexEqual, foundTold, lookupOn, findEqual, stepOn, visitedOf, begunTold, visitOn, visitEqual}
+use Rattle.records.specs.Records.{wordOf, geometryOf, imageOf}
+use Rattle.records.specs.Agreement.{bareOf, toldOf}
+use Rattle.told_lists.specs.Lists.{placeTold, foundTold}
+use Rattle.told_lists.specs.declared.TidIndex.{TidIndex}
+use Rattle.told_lists.specs.declared.TidFind.{TidFind}
+use Rattle.replay.specs.Lists.{indexEqual, lookupOn, findEqual, stepOn, visitedOf, begunEqual, visitOn, visitEqual}
+use Rattle.layout.specs.Layout.{placeOf}
+use Rattle.card.specs.inner.Cards.{cardWith}
+use Rattle.layout.specs.inner.Served.{blockList, geometry}
 
-pub index-is : (list : List ℕ) (at b p : ℕ) (f : Place) (r : Bool) → b ≡ wordOf list at 4 → p ≡ wordOf list at 5 → f ≡ placeOf b p → r ≡ placeTold list at f
+pub index-is : (list : List ℕ) (at b p code : ℕ) (f : Place) (a : TidIndex) (r : Bool) → b ≡ wordOf list at 4 → p ≡ wordOf list at 5 → f ≡ placeOf b p → a ≡ placeTold f
+    → code ≡ bareOf (a .code)
+    → r ≡ toldOf list at code (a .index) (a .offset) 0
     → r ≡ indexEqual list at
 unfolding indexEqual
-index-is list at b p f r x y e q = q ∙ rw (indexEqual, e, x, y)
+index-is list at b p code f a r x y e t k q = q ∙ rw (k, t, indexEqual, e, x, y)
 
 -- a lookup on a card, and the record of it
 pub lookup-is : (list : List ℕ) (card : ℕ) (g : Geometry) (image : List ℕ) (h s p : ℕ) (f : Found) → g ≡ geometryOf list card → image ≡ imageOf list card
-    → f ≡ lookupOf (g .«block_size») (g .«block_count») image h s p → f ≡ lookupOn list card h s p
+    → f ≡ lookupOf (cardWith (g .«block_size») (g .«block_count») image) (blockList h s) p → f ≡ lookupOn list card h s p
 lookup-is list card g image h s p f x y e = e ∙ rw (x, y)
 
-pub find-is : (list : List ℕ) (at card h s p : ℕ) (f : Found) (r : Bool) → card ≡ wordOf list at 4 → h ≡ wordOf list at 5 → s ≡ wordOf list at 6 → p ≡ wordOf list at 7
-    → f ≡ lookupOn list card h s p → r ≡ foundTold list at f → r ≡ findEqual list at
+pub find-is : (list : List ℕ) (at card h s p code : ℕ) (f : Found) (a : TidFind) (r : Bool) → card ≡ wordOf list at 4 → h ≡ wordOf list at 5 → s ≡ wordOf list at 6 → p ≡ wordOf list at 7
+    → f ≡ lookupOn list card h s p → a ≡ foundTold f
+    → code ≡ bareOf (a .code)
+    → r ≡ toldOf list at code (a .block) (a .offset) (a .hops)
+    → r ≡ findEqual list at
 unfolding findEqual
-find-is list at card h s p f r w x y z e q = q ∙ rw (findEqual, e, w, x, y, z)
+find-is list at card h s p code f a r w x y z e t k q = q ∙ rw (k, t, findEqual, e, w, x, y, z)
 
 -- a visit on a card, and the record of it
 pub visit-begins : (list : List ℕ) (card : ℕ) (g : Geometry) (h s : ℕ) (b : Begun) → g ≡ geometryOf list card
-    → b ≡ beginOf (g .«block_size») (g .«block_count») h s → b ≡ visitOn list card h s
+    → b ≡ beginOf (geometry (g .«block_size») (g .«block_count»)) (blockList h s) → b ≡ visitOn list card h s
 visit-begins list card g h s b x e = e ∙ rw x
 
 pub visit-is : (list : List ℕ) (at card h s : ℕ) (b : Begun) (r : Bool) → card ≡ wordOf list at 4 → h ≡ wordOf list at 5 → s ≡ wordOf list at 6
-    → b ≡ visitOn list card h s → r ≡ begunTold list at card (wordOf list at 7) b → r ≡ visitEqual list at
+    → b ≡ visitOn list card h s → r ≡ begunEqual list at card (wordOf list at 7) b → r ≡ visitEqual list at
 unfolding visitEqual
 visit-is list at card h s b r x y z e q = q ∙ rw (visitEqual, e, x, y, z)
 
 pub visited-is : (list : List ℕ) (at card blocks : ℕ) (v : Visit) (r : Bool) → blocks ≡ wordOf list at 7 → r ≡ visitedOf 64 list at card blocks 0 v
-    → r ≡ begunTold list at card (wordOf list at 7) (begun.At v)
+    → r ≡ begunEqual list at card (wordOf list at 7) (begun.At v)
 visited-is list at card blocks v r x q = q ∙ rw x
 
 pub step-is : (list : List ℕ) (card : ℕ) (g : Geometry) (image : List ℕ) (v : Visit) (s : Step) → g ≡ geometryOf list card → image ≡ imageOf list card
-    → s ≡ traverseOf (g .«block_size») (g .«block_count») image v → s ≡ stepOn list card v
+    → s ≡ traverseOf (cardWith (g .«block_size») (g .«block_count») image) v → s ≡ stepOn list card v
 step-is list card g image v s x y e = e ∙ rw (x, y)
 
 -- what is left of a visit behind i blocks, by its next step

@@ -14,8 +14,11 @@ use Rattle.files.specs.declared.Table.{Table}
 use Rattle.files.specs.declared.position.Sought.{Sought}
 use Rattle.files.specs.Table.{tableOf}
 use Rattle.files.specs.Seek.{seekOf}
-use Rattle.replay.specs.Records.{wordOf, signedOf}
-use Rattle.replay.specs.Files.{soughtTold, someHead, oneFile, seekEqual}
+use Rattle.records.specs.Records.{wordOf, signedOf}
+use Rattle.records.specs.Agreement.{bareOf, toldOf}
+use Rattle.told_tables.specs.Tables.{soughtTold}
+use Rattle.told_tables.specs.declared.TidSeek.{TidSeek}
+use Rattle.replay.specs.Files.{someHead, oneFile, seekEqual}
 use Rattle.layout.specs.Numbers.{nullBlock}
 
 pub head-none : (size : ℕ) → size ≡ 0 → nullBlock ≡ someHead size
@@ -32,18 +35,20 @@ pub one-file : (t : Table) (size head : ℕ) → t ≡ tableOf [] → head ≡ s
 one-file t size head e h = rw (e, h)
 
 -- the signed arguments come back from their bits
-pub seek-is : (list : List ℕ) (at size p x y : ℕ) (offset whence : ℤ) (t : Table) (s : Sought) (r : Bool) → size ≡ wordOf list at 4 → p ≡ wordOf list at 5 → x ≡ wordOf list at 6
+pub seek-is : (list : List ℕ) (at size p x y code : ℕ) (offset whence : ℤ) (t : Table) (s : Sought) (a : TidSeek) (r : Bool) → size ≡ wordOf list at 4 → p ≡ wordOf list at 5 → x ≡ wordOf list at 6
     → y ≡ wordOf list at 7
     → mag offset < 2147483648
     → offset ≡ signedOf x
     → mag whence < 2147483648
     → whence ≡ signedOf y
     → t ≡ oneFile size
-    → s ≡ seekOf t 7 p (toZ w32 (ofZ w32 offset)) (toZ w32 (ofZ w32 whence))
-    → r ≡ soughtTold list at s
+    → s ≡ seekOf t (record { number = 7; position = p; offset = (toZ w32 (ofZ w32 offset)); whence = (toZ w32 (ofZ w32 whence)) })
+    → a ≡ soughtTold s
+    → code ≡ bareOf (a .code)
+    → r ≡ toldOf list at code (a .position) 0 0
     → r ≡ seekEqual list at
 unfolding seekEqual
-seek-is list at size p x y offset whence t s r a b c d i o j w f e q =
+seek-is list at size p x y code offset whence t s told r a b c d i o j w f e g h q =
     let k : SFits w32 offset = record { sfits = i } in
     let l : SFits w32 whence = record { sfits = j } in
-    q ∙ rw (seekEqual, e, toZ-ofZ k, toZ-ofZ l, f, o, w, a, b, c, d)
+    q ∙ rw (h, g, seekEqual, e, toZ-ofZ k, toZ-ofZ l, f, o, w, a, b, c, d)

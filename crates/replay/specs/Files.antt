@@ -4,19 +4,17 @@ use mathlib.Core.List.{List, [], _∷_}
 use Prim.Native.Nat.{ℕ}
 use lib.Dec.{eqb}
 use Rattle.files.specs.declared.Table.{Table}
-use Rattle.files.specs.declared.position.Sought.{Sought}
-use Rattle.files.specs.declared.position.Sought.the-variants as sought
 use Rattle.files.specs.Table.{tableOf}
 use Rattle.files.specs.Seek.{seekOf}
-use Rattle.replay.specs.Records.{wordOf, signedOf}
-use Rattle.replay.specs.Agreement.{toldOf}
+use Rattle.records.specs.Records.{wordOf, signedOf}
+use Rattle.records.specs.Agreement.{bareOf, toldOf}
+use Rattle.told_tables.specs.Tables.{soughtTold}
+use Rattle.told_tables.specs.declared.TidSeek.{TidSeek}
 use Rattle.layout.specs.Numbers.{nullBlock}
 
 -- the position
-abbrev pub soughtTold : List ℕ → ℕ → Sought → Bool
-soughtTold list at (sought.At position) = toldOf list at 0 position 0 0
-soughtTold list at sought.Missing = toldOf list at 2 0 0 0
-soughtTold list at sought.Refused = toldOf list at 22 0 0 0
+abbrev pub soughtEqual : List ℕ → ℕ → TidSeek → Bool
+soughtEqual list at a = toldOf list at (bareOf a.code) a.position 0 0
 
 -- a head that a file of this size can have
 unfoldable pub someHead : ℕ → ℕ
@@ -29,5 +27,5 @@ oneFile size = tableOf (record { number = 7; size = size; head = someHead size }
 -- the question: the size of file 7, the position held, offset and whence
 unfoldable pub seekEqual : List ℕ → ℕ → Bool
 seekEqual list at =
-    soughtTold list at
-    (seekOf (oneFile (wordOf list at 4)) 7 (wordOf list at 5) (signedOf (wordOf list at 6)) (signedOf (wordOf list at 7)))
+    soughtEqual list at
+    (soughtTold (seekOf (oneFile (wordOf list at 4)) (record { number = 7; position = (wordOf list at 5); offset = (signedOf (wordOf list at 6)); whence = (signedOf (wordOf list at 7)) })))

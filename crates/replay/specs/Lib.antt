@@ -1,6 +1,4 @@
 -- The definitions that the contracts of `replay` cite.
-pub mod Records
-pub mod Agreement
 pub mod Lists
 pub mod Files
 pub mod Blocks

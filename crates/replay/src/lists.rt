@@ -1,16 +1,15 @@
 // Records on block lists: index, lookup and visit, asked of the proved functions and held to the answers that the records have.
 //
 // The first four words of a record are the answer: 0 or the refusal without its sign, and up to three values. The question follows.
-use crate::agree::told;
-use crate::list::geometry;
-use crate::list::image;
-use crate::list::place;
-use crate::list::word;
-use ctz::Found;
 use ctz::visit::Begun;
 use ctz::visit::Step;
 use ctz::visit::Visit;
-use layout::Place;
+use records::agree::bare;
+use records::agree::told;
+use records::geometry;
+use records::image;
+use records::place;
+use records::word;
 ghost use mathlib.Core.Path.{_≡_};
 ghost use Rattle.replay.specs.Lists.{indexEqual, findEqual, visitedOf, visitEqual};
 
@@ -18,11 +17,8 @@ ghost use Rattle.replay.specs.Lists.{indexEqual, findEqual, visitedOf, v
 pub fn index(list: &[u8], at: usize) -> bool
     ensures { λ r. ⌜ r ≡ indexEqual (now (list .entry)) at ⌝ }
 {
-    let found = layout::ctz_index(word(list, at, 4), word(list, at, 5));
-    match found {
-        Place::At { index, offset } => told(list, at, 0, index, offset, 0),
-        Place::Refused => told(list, at, 22, 0, 0, 0),
-    }
+    let a = told_lists::place_told(layout::ctz_index(word(list, at, 4), word(list, at, 5)));
+    told(list, at, bare(a.code), a.index, a.offset, 0)
 }
 
 // Block, offset and hops of a position.
@@ -30,22 +26,14 @@ pub fn find(list: &[u8], at: usize) -> bool
     ensures { λ r. ⌜ r ≡ findEqual (now (list .entry)) at ⌝ }
 {
     let card = place(list, at, 4);
-    let found = ctz::ctz_find(
+    let a = told_lists::found_told(ctz::ctz_find(
         geometry(list, card),
         image(list, card),
         word(list, at, 5),
         word(list, at, 6),
         word(list, at, 7),
-    );
-    match found {
-        Found::At {
-            block,
-            offset,
-            hops,
-        } => told(list, at, 0, block, offset, hops),
-        Found::Damaged => told(list, at, 84, 0, 0, 0),
-        Found::Refused => told(list, at, 22, 0, 0, 0),
-    }
+    ));
+    told(list, at, bare(a.code), a.block, a.offset, a.hops)
 }
 
 // The blocks that a visit hands over, in their order, and how many: at most 64.

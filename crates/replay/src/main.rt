@@ -1,9 +1,7 @@
 // Replays a fixed list of the oracle's answers: each record is asked of the proved function and held to the oracle's answer.
 //
 // From byte 0 on the list has the place of the records of each kind, from byte 32 on their number; docs/DIFFERENCES.md says how it was made.
-mod agree;
 mod blocks;
-mod list;
 mod lists;
 mod seeks;
 
@@ -51,8 +49,8 @@ fn run(list: &[u8], kind: u32, first: usize, width: usize, count: u32) -> Outcom
 
 // Writes the line of one kind: how many records are equal, and where the first that differs stands.
 fn replay(list: &[u8], kind: u32, name: &[u8], width: usize) {
-    let count = list::word(list, 32, kind);
-    let done = run(list, kind, list::place(list, 0, kind), width, count);
+    let count = records::word(list, 32, kind);
+    let done = run(list, kind, records::place(list, 0, kind), width, count);
     io::write_all(STDOUT_FILENO, name);
     io::print_decimal(STDOUT_FILENO, done.equal as u64);
     io::write_all(STDOUT_FILENO, b" equal");

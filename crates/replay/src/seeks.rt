@@ -1,11 +1,11 @@
 // Records on a file: where a seek leads.
-use crate::agree::told;
-use crate::list::signed;
-use crate::list::word;
 use files::Entry;
 use files::Table;
-use files::position::Sought;
 use layout::Geometry;
+use records::agree::bare;
+use records::agree::told;
+use records::signed;
+use records::word;
 ghost use mathlib.Core.Path.{_≡_};
 ghost use Rattle.replay.specs.Files.{someHead, oneFile, seekEqual};
 
@@ -34,16 +34,12 @@ fn one_file(size: u32) -> Table
 pub fn seek(list: &[u8], at: usize) -> bool
     ensures { λ r. ⌜ r ≡ seekEqual (now (list .entry)) at ⌝ }
 {
-    let sought = files::position::seek(
+    let a = told_tables::sought_told(files::position::seek(
         one_file(word(list, at, 4)),
         7,
         word(list, at, 5),
         signed(word(list, at, 6)),
         signed(word(list, at, 7)),
-    );
-    match sought {
-        Sought::At(position) => told(list, at, 0, position, 0, 0),
-        Sought::Missing => told(list, at, 2, 0, 0, 0),
-        Sought::Refused => told(list, at, 22, 0, 0, 0),
-    }
+    ));
+    told(list, at, bare(a.code), a.position, 0, 0)
 }

@@ -11,13 +11,12 @@ use Rattle.files.specs.declared.Table.{Table}
 use Rattle.files.specs.Table.{held, tableOf, filesOk, tableOk}
 use Rattle.files.specs.Change.{emptyFile}
 use Rattle.files.proofs.Tests.{leb-cases, eqb-cases}
-use Rattle.files.proofs.Laws.{Good, join-ok}
+use Rattle.files.proofs.Laws.{join-ok, GoodEntry}
 use Rattle.files.proofs.Lists.{held-of, of-ok}
 use Rattle.saved.specs.declared.Loading.the-variants as loading
 use Rattle.saved.specs.declared.Loaded.{Loaded}
-use Rattle.saved.specs.Groups.{groups, Reading, damaged, read, readUpTo}
-use Rattle.saved.specs.Save.{headBytes, entryBytes, filesBytes, saveOf}
-use Rattle.saved.specs.Load.{readHead, readSize, readEntry, before, readFiles, refusedLoad, finish, loadOf}
+use Rattle.saved.specs.Load.{Reading, damaged, read, readUpTo, readHead, readSize, readEntry, readFiles, finish, loadOf, fileBefore, thenRead}
+use Rattle.saved.specs.Save.{headBytes, entryBytes, filesBytes, saveOf, groups}
 use Rattle.saved.proofs.Numbers.{Bytes, InRange, up-to-was, reading-cases}
 use Rattle.saved.proofs.Steps.{head-none, head-some}
 use Rattle.layout.specs.Numbers.{filesMax, numberMax, sizeMax, nullBlock, headMax}
@@ -31,15 +30,15 @@ record Body (number : ℕ) (e : Entry) (rest bs : List ℕ) : Type 0 where
   size-le : e .size ≤ sizeMax
   head-null : e .size ≡ 0 → e .head ≡ nullBlock
   head-le : zero < e .size → e .head ≤ headMax
-  written : bs ≡ groups (e .size) ++ (headBytes (e .size) (e .head) ++ rest)
+  written : bs ≡ groups (e .size) ++ (headBytes e ++ rest)
   after : Bytes rest
 
 head-was : (number size : ℕ) (e : Entry) (bs cs rest : List ℕ) → Bytes bs → size ≤ sizeMax → (size ≡ 0 → ⊥) → cs ≡ groups size ++ bs
-    → readHead number size bs ≡ read e rest → Body number e rest cs
+    → readHead (record { number = number; size = size; head = 0 }) bs ≡ read e rest → Body number e rest cs
 unfolding readHead
 head-was number size e bs cs rest b s z c =
     reading-cases (readUpTo headMax bs)
-    (λ r. (elim r [ damaged ↦ damaged | read head w ↦ read (record { number = number; size = size; head = head }) w ]) ≡ read e rest → Body number e rest cs)
+    (λ r. thenRead r (λ head w. read (record { number = number; size = size; head = head }) w) ≡ read e rest → Body number e rest cs)
     (λ p q. clash e rest q)
     (λ head w p q.
     let i = up-to-was headMax bs head w b p in
@@ -51,7 +50,7 @@ head-was number size e bs cs rest b s z c =
       size-le = s;
       head-null = λ n. absurd (z n);
       head-le = λ n. i .in-range;
-      written = c ∙ rw (head-some size head z) (ap (λ (l : List ℕ). groups size ++ l) (i .was .written));
+      written = c ∙ rw (head-some (record { number = number; size = size; head = head }) z) (ap (λ (l : List ℕ). groups size ++ l) (i .was .written));
       after = i .was .after;
     }))
 
@@ -59,12 +58,12 @@ size-was : (number : ℕ) (e : Entry) (bs rest : List ℕ) → Bytes bs → read
 unfolding readSize
 size-was number e bs rest b =
     reading-cases (readUpTo sizeMax bs)
-    (λ r. (elim r [ damaged ↦ damaged | read size w ↦ elim (eqb size 0) [ true ↦ read (emptyFile number) w | false ↦ readHead number size w ] ]) ≡ read e rest
+    (λ r. thenRead r (λ size w. elim (eqb size 0) [ true ↦ read (emptyFile number) w | false ↦ readHead (record { number = number; size = size; head = 0 }) w ]) ≡ read e rest
     → Body number e rest bs)
     (λ p q. clash e rest q)
     (λ size w p.
     let i = up-to-was sizeMax bs size w b p in
-    eqb-cases size 0 (λ t. (elim t [ true ↦ read (emptyFile number) w | false ↦ readHead number size w ]) ≡ read e rest → Body number e rest bs)
+    eqb-cases size 0 (λ t. (elim t [ true ↦ read (emptyFile number) w | false ↦ readHead (record { number = number; size = size; head = 0 }) w ]) ≡ read e rest → Body number e rest bs)
     (λ z q.
     let x : emptyFile number ≡ e = cc in
     let y : w ≡ rest = cc in
@@ -74,13 +73,13 @@ size-was number e bs rest b =
       size-le = omega arith;
       head-null = λ n. refl;
       head-le = λ n. absurd (omega arith);
-      written = i .was .written ∙ rw (z, head-none 0 nullBlock refl);
+      written = i .was .written ∙ rw (z, head-none (emptyFile number) refl);
       after = i .was .after;
     }))
     (λ z q. head-was number size e w bs rest (i .was .after) (i .in-range) z (i .was .written) q))
 
 pub record EntryWas (least : ℕ) (e : Entry) (rest bs : List ℕ) : Type 0 where
-  pub good : Good least e
+  pub good : GoodEntry least e
   pub written : bs ≡ entryBytes e ++ rest
   pub after : Bytes rest
 
@@ -88,7 +87,7 @@ pub entry-was : (least : ℕ) (e : Entry) (bs rest : List ℕ) → Bytes bs → 
 unfolding readEntry entryBytes
 entry-was least e bs rest b =
     reading-cases (readUpTo numberMax bs)
-    (λ r. (elim r [ damaged ↦ damaged | read number w ↦ elim (leb least number) [ true ↦ readSize number w | false ↦ damaged ] ]) ≡ read e rest → EntryWas least e rest bs)
+    (λ r. thenRead r (λ number w. elim (leb least number) [ true ↦ readSize number w | false ↦ damaged ]) ≡ read e rest → EntryWas least e rest bs)
     (λ p q. clash e rest q)
     (λ number w p.
     let i = up-to-was numberMax bs number w b p in
@@ -105,8 +104,8 @@ entry-was least e bs rest b =
       };
       written =
           i .was .written
-          ∙ rw (s .named, append-assoc (groups number) (groups (e .size) ++ headBytes (e .size) (e .head)) rest, append-assoc (groups (e .size)) (headBytes (e .size) (e .head)) rest)
-          (ap (λ (l : List ℕ). groups number ++ l) (s .written));
+          ∙ rw (append-assoc (groups (e .number)) (groups (e .size) ++ headBytes e) rest, append-assoc (groups (e .size)) (headBytes e) rest)
+          (ap (λ (l : List ℕ). groups number ++ l) (s .written) ∙ ap (λ (n : ℕ). groups n ++ (groups (e .size) ++ (headBytes e ++ rest))) (sym (s .named)));
       after = s .after;
     })
     (λ l q. clash e rest q))
@@ -135,14 +134,14 @@ one-was k least e fs es bs w rest a b x =
       written = a .written ∙ rw (append-assoc (entryBytes e) (filesBytes fs) rest) (ap (λ (l : List ℕ). entryBytes e ++ l) (b .written));
     })
 
-pub files-was : (k least : ℕ) (es : List Entry) (bs rest : List ℕ) → Bytes bs → readFiles k least bs ≡ read es rest → FilesWas k least es rest bs
-unfolding readFiles before
+pub files-was : (k least : ℕ) (es : List Entry) (bs rest : List ℕ) → Bytes bs → readFiles k bs least ≡ read es rest → FilesWas k least es rest bs
+unfolding readFiles fileBefore
 files-was zero least es bs rest b e = none-was least es bs rest e
 files-was (suc k) least es bs rest b e =
     reading-cases (readEntry least bs)
-    (λ r. (elim r [ damaged ↦ damaged | read f w ↦ before f (readFiles k (suc (f .number)) w) ]) ≡ read es rest → FilesWas (suc k) least es rest bs)
+    (λ r. thenRead r (λ f w. fileBefore f (readFiles k w (suc (f .number)))) ≡ read es rest → FilesWas (suc k) least es rest bs)
     (λ p q. clash es rest q)
-    (λ f w p. reading-cases (readFiles k (suc (f .number)) w) (λ r. before f r ≡ read es rest → FilesWas (suc k) least es rest bs)
+    (λ f w p. reading-cases (readFiles k w (suc (f .number))) (λ r. fileBefore f r ≡ read es rest → FilesWas (suc k) least es rest bs)
     (λ s q. clash es rest q)
     (λ fs v s q.
     let x : f ∷ fs ≡ es = cc in
@@ -177,12 +176,12 @@ exact es t count bs w i f x =
 
 -- what load takes is exactly the saved form of the table that it answers
 pub load-exact : (t : Table) (bs : List ℕ) → Bytes bs → loadOf bs ≡ record { answer = loading.Done; table = t } → Exact t bs
-unfolding loadOf
+unfolding loadOf finish
 load-exact t bs b =
     reading-cases (readUpTo filesMax bs)
-    (λ r. _≡_ {A = Loaded} (elim r [ damaged ↦ refusedLoad | read count w ↦ finish (readFiles count 0 w) ]) (record { answer = loading.Done; table = t }) → Exact t bs)
+    (λ r. _≡_ {A = Loaded} (finish (thenRead r (λ count w. readFiles count w 0))) (record { answer = loading.Done; table = t }) → Exact t bs)
     (λ p q. let z : _≡_ {A = ℕ} 0 1 = cc (ap (λ (x : Loaded). x .answer) q) in absurd (omega arith))
     (λ count w p q.
     let i = up-to-was filesMax bs count w b p in
-    let d = finish-was t (readFiles count 0 w) q in
+    let d = finish-was t (readFiles count w 0) q in
     exact (d .0) t count bs w i (files-was count 0 (d .0) w [] (i .was .after) (d .1 .0)) (d .1 .1))

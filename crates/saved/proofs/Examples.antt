@@ -6,9 +6,8 @@ use Rattle.files.specs.declared.Table.{Table}
 use Rattle.files.specs.Table.{tableOf}
 use Rattle.files.specs.Change.{emptyFile}
 use Rattle.saved.specs.declared.Loading.the-variants as loading
-use Rattle.saved.specs.Groups.{groupsBy, groups, more, readNumber, upTo, readUpTo}
-use Rattle.saved.specs.Save.{headBytes, entryBytes, filesBytes, saveOf}
-use Rattle.saved.specs.Load.{readHead, readSize, readEntry, before, readFiles, finish, loadOf}
+use Rattle.saved.specs.Load.{readNumber, upTo, readUpTo, readHead, readSize, readEntry, readFiles, finish, loadOf, fileBefore, groupBefore}
+use Rattle.saved.specs.Save.{headBytes, entryBytes, filesBytes, saveOf, groups, groupsBy}
 
 abbrev pub two : Table
 two = tableOf (record { number = 3; size = 300; head = 7 } ∷ emptyFile 200 ∷ [])
@@ -21,5 +20,5 @@ unfolding saveOf filesBytes entryBytes headBytes groups groupsBy
 saves = refl
 
 pub loads : loadOf bytes ≡ record { answer = loading.Done; table = two }
-unfolding loadOf finish readFiles before readEntry readSize readHead readUpTo upTo readNumber more
+unfolding loadOf finish readFiles fileBefore readEntry readSize readHead readUpTo upTo readNumber groupBefore
 loads = refl

@@ -16,9 +16,8 @@ use Rattle.saved.specs.declared.read.EntryRead.{EntryRead}
 use Rattle.saved.specs.declared.read.EntryRead.the-variants as entry
 use Rattle.saved.specs.declared.Loading.the-variants as loading
 use Rattle.saved.specs.declared.Loaded.{Loaded}
-use Rattle.saved.specs.Groups.{Reading, damaged, read, readUpTo}
-use Rattle.saved.specs.Load.{readEntry, readSize, before, readFiles, refusedLoad, finish, loadOf}
-use Rattle.saved.specs.Inner.{numberTold, NumberPost, entryTold, EntryPost}
+use Rattle.saved.specs.Load.{Reading, damaged, read, readUpTo, readEntry, readSize, readFiles, refusedLoad, finish, loadOf, fileBefore}
+use Rattle.saved.specs.inner.Steps.{numberTold, NumberPost, entryTold, EntryPost}
 use Rattle.saved.proofs.Numbers.{Bytes, up-to-le}
 use Rattle.saved.proofs.Steps.{head-no, head-yes, size-no, size-empty, size-some, entry-no, entry-low, entry-yes, files-no, files-yes, load-no, load-yes}
 use Rattle.saved.proofs.Exact.{entry-was}
@@ -99,8 +98,8 @@ unfolding behind
 behind-none damaged = refl
 behind-none (read fs rest) = refl
 
-behind-before : (es : List Entry) (e : Entry) (r : Reading (List Entry)) → behind es (before e r) ≡ behind (es ++ (e ∷ [])) r
-unfolding behind before
+behind-before : (es : List Entry) (e : Entry) (r : Reading (List Entry)) → behind es (fileBefore e r) ≡ behind (es ++ (e ∷ [])) r
+unfolding behind fileBefore
 behind-before es e damaged = refl
 behind-before es e (read fs rest) = ap (λ (l : List Entry). read l rest) (sym (append-snoc es e fs))
 
@@ -111,7 +110,7 @@ pub record Filled (bytes : List ℕ) (at count : ℕ) (slots : List Entry) (leas
   pub filled : slots ≡ files ++ replicate (filesMax - i) noEntry
   pub i-le : i ≤ count
   pub count-le : count ≤ filesMax
-  pub rest : finish (readFiles count 0 (drop at bytes)) ≡ finish (behind files (readFiles (count - i) least (drop p bytes)))
+  pub rest : finish (readFiles count (drop at bytes) 0) ≡ finish (behind files (readFiles (count - i) (drop p bytes) least))
 
 pub filled-start : (bytes : List ℕ) (at count : ℕ) (t : Table) → count ≤ filesMax → t ≡ tableOf [] → Filled bytes at count (t .files) 0 at 0
 filled-start bytes at count t h e =
@@ -121,7 +120,7 @@ filled-start bytes at count t h e =
       filled = ap (λ (x : Table). x .files) e;
       i-le = omega arith;
       count-le = h;
-      rest = let z : count - 0 ≡ count = omega arith in rw z (ap finish (behind-none (readFiles count 0 (drop at bytes))));
+      rest = let z : count - 0 ≡ count = omega arith in rw z (ap finish (behind-none (readFiles count (drop at bytes) 0)));
     }
 
 module _ (bytes : List ℕ) (at count : ℕ) (slots : List Entry) (least p i : ℕ) (d : Filled bytes at count slots least p i) where
@@ -129,16 +128,16 @@ module _ (bytes : List ℕ) (at count : ℕ) (slots : List Entry) (least p i : �
     left : count - i ≡ suc (count - (i + 1))
     left = omega arith
 
-    pub filled-damaged : r ≡ entry.Damaged → refusedLoad ≡ finish (readFiles count 0 (drop at bytes))
+    pub filled-damaged : r ≡ entry.Damaged → refusedLoad ≡ finish (readFiles count (drop at bytes) 0)
     unfolding finish behind
     filled-damaged e =
-        let m : readFiles (count - i) least (drop p bytes) ≡ damaged
+        let m : readFiles (count - i) (drop p bytes) least ≡ damaged
         = rw left (files-no (count - (i + 1)) least (drop p bytes) (q .told ∙ ap (entryTold bytes) e)) in
         sym (d .rest ∙ rw m)
 
     pub filled-turn : (e : Entry) (next : ℕ) → r ≡ entry.At e next → Filled bytes at count (set slots i e) (e .number + 1) next (i + 1)
     filled-turn e next f =
-        let m : readFiles (count - i) least (drop p bytes) ≡ before e (readFiles (count - (i + 1)) (e .number + 1) (drop next bytes))
+        let m : readFiles (count - i) (drop p bytes) least ≡ fileBefore e (readFiles (count - (i + 1)) (drop next bytes) (e .number + 1))
         = rw (left, add-one (e .number)) (files-yes (count - (i + 1)) least (drop p bytes) e (drop next bytes) (q .told ∙ ap (entryTold bytes) f)) in
         let k : filesMax - i ≡ suc (filesMax - (i + 1)) = omega (arith, d .count-le) in
         record {
@@ -148,21 +147,21 @@ module _ (bytes : List ℕ) (at count : ℕ) (slots : List Entry) (least p i : �
               (sym (append-snoc (d .files) e (replicate (filesMax - (length (d .files) + 1)) noEntry)));
           i-le = omega arith;
           count-le = d .count-le;
-          rest = d .rest ∙ ap finish (ap (behind (d .files)) m ∙ behind-before (d .files) e (readFiles (count - (i + 1)) (e .number + 1) (drop next bytes)));
+          rest = d .rest ∙ ap finish (ap (behind (d .files)) m ∙ behind-before (d .files) e (readFiles (count - (i + 1)) (drop next bytes) (e .number + 1)));
         }
 
   module _ (h : count ≤ i) where
-    all-read : finish (readFiles count 0 (drop at bytes)) ≡ finish (read (d .files) (drop p bytes))
+    all-read : finish (readFiles count (drop at bytes) 0) ≡ finish (read (d .files) (drop p bytes))
     unfolding readFiles behind
     all-read =
         let z : count - i ≡ zero = omega arith in
         d .rest ∙ rw z (ap (λ (l : List Entry). finish (read l (drop p bytes))) (append-nil (d .files)))
 
-    pub filled-trailing : p < length bytes → refusedLoad ≡ finish (readFiles count 0 (drop at bytes))
+    pub filled-trailing : p < length bytes → refusedLoad ≡ finish (readFiles count (drop at bytes) 0)
     unfolding finish
     filled-trailing l = sym (all-read ∙ rw (drop-cons bytes p 0 l))
 
-    pub filled-done : length bytes ≤ p → record { answer = loading.Done; table = record { files = slots; count = count } } ≡ finish (readFiles count 0 (drop at bytes))
+    pub filled-done : length bytes ≤ p → record { answer = loading.Done; table = record { files = slots; count = count } } ≡ finish (readFiles count (drop at bytes) 0)
     unfolding finish
     filled-done l =
         let n : length (d .files) ≡ count = omega (arith, d .many, d .i-le) in
@@ -178,5 +177,5 @@ module _ (bytes : List ℕ) (r : NumberRead) (p : NumberPost bytes 0 filesMax r)
   pub load-count : (count next : ℕ) → r ≡ number.At count next → count ≤ filesMax
   load-count count next e = up-to-le filesMax bytes count (drop next bytes) (number-at bytes 0 filesMax r p count next e)
 
-  pub load-files : (count next : ℕ) (u : Loaded) → r ≡ number.At count next → u ≡ finish (readFiles count 0 (drop next bytes)) → u ≡ loadOf bytes
+  pub load-files : (count next : ℕ) (u : Loaded) → r ≡ number.At count next → u ≡ finish (readFiles count (drop next bytes) 0) → u ≡ loadOf bytes
   load-files count next u e q = q ∙ sym (load-yes bytes count (drop next bytes) (number-at bytes 0 filesMax r p count next e))

@@ -8,8 +8,9 @@ use native.Mathlib.Omega.{arith}
 use lib.ListN.{length, getD}
 use borrow.Author.Tests.{lt-ltb, le-ltb, le-leb, eq-eqb, ne-eqb}
 use Rattle.files.proofs.Tests.{ltb-cases, leb-cases, eqb-cases}
-use Rattle.saved.specs.Inner.{Counted}
-use Rattle.saved.specs.Groups.{groupsBy, groups, Reading, damaged, read, more, readNumber, upTo, readUpTo}
+use Rattle.saved.specs.inner.Steps.{Counted}
+use Rattle.saved.specs.Load.{Reading, damaged, read, readNumber, upTo, readUpTo, thenRead, groupBefore}
+use Rattle.saved.specs.Save.{groups, groupsBy}
 
 -- more room changes nothing
 enough : (f g n : ℕ) → n ≤ f → n ≤ g → groupsBy f n ≡ groupsBy g n
@@ -75,17 +76,17 @@ pub read-last : (b : ℕ) (bs : List ℕ) → b < 128 → readNumber (b ∷ bs) 
 unfolding readNumber
 read-last b bs h = rw (readNumber, lt-ltb b 128 h)
 
-pub read-more : (b : ℕ) (bs : List ℕ) → 128 ≤ b → readNumber (b ∷ bs) ≡ more b (readNumber bs)
+pub read-more : (b : ℕ) (bs : List ℕ) → 128 ≤ b → readNumber (b ∷ bs) ≡ groupBefore b (readNumber bs)
 unfolding readNumber
 read-more b bs h = rw (readNumber, le-ltb b 128 h)
 
-pub more-some : (b v : ℕ) (rest : List ℕ) → (v ≡ 0 → ⊥) → more b (read v rest) ≡ read (b - 128 + 128 * v) rest
-unfolding more
-more-some b v rest h = rw (more, ne-eqb v 0 h)
+pub more-some : (b v : ℕ) (rest : List ℕ) → (v ≡ 0 → ⊥) → groupBefore b (read v rest) ≡ read (b - 128 + 128 * v) rest
+unfolding groupBefore
+more-some b v rest h = rw (groupBefore, thenRead, ne-eqb v 0 h)
 
-pub more-none : (b v : ℕ) (rest : List ℕ) → v ≡ 0 → more b (read v rest) ≡ damaged
-unfolding more
-more-none b v rest h = rw (more, eq-eqb v 0 h)
+pub more-none : (b v : ℕ) (rest : List ℕ) → v ≡ 0 → groupBefore b (read v rest) ≡ damaged
+unfolding groupBefore
+more-none b v rest h = rw (groupBefore, thenRead, eq-eqb v 0 h)
 
 -- a number's groups read back
 read-by : (f n : ℕ) (rest : List ℕ) → n ≤ f → readNumber (groups n ++ rest) ≡ read n rest
@@ -97,7 +98,7 @@ read-by (suc f) n rest h =
     let v : 128 + n % 128 - 128 + 128 * (n / 128) ≡ n = omega arith in
     rw (groups-more n l)
     (read-more (128 + n % 128) (groups (n / 128) ++ rest) (omega arith)
-    ∙ ap (more (128 + n % 128)) (read-by f (n / 128) rest (omega arith))
+    ∙ ap (groupBefore (128 + n % 128)) (read-by f (n / 128) rest (omega arith))
     ∙ more-some (128 + n % 128) (n / 128) rest (λ z. omega arith)
     ∙ ap (λ (x : ℕ). read x rest) v))
 
@@ -130,8 +131,8 @@ last-was b n bs rest l h e =
     record { written = rw (← x, ← y, groups-last b l); after = rw (← y) (tail-bytes b bs h) }
 
 more-was : (b n : ℕ) (bs rest : List ℕ) → 128 ≤ b → Bytes (b ∷ bs) → (r : Reading ℕ) → ((v : ℕ) (w : List ℕ) → r ≡ read v w → WasRead v w bs)
-    → more b r ≡ read n rest → WasRead n rest (b ∷ bs)
-unfolding more
+    → groupBefore b r ≡ read n rest → WasRead n rest (b ∷ bs)
+unfolding groupBefore
 more-was b n bs rest l h damaged ih = λ e. let z : _≡_ {A = ℕ} 0 1 = cc in absurd (omega arith)
 more-was b n bs rest l h (read v w) ih =
     eqb-cases v 0 (λ t. (elim t [ true ↦ damaged | false ↦ read (b - 128 + 128 * v) w ]) ≡ read n rest → WasRead n rest (b ∷ bs))
@@ -149,7 +150,7 @@ pub number-was : (bs : List ℕ) (n : ℕ) (rest : List ℕ) → Bytes bs → re
 unfolding readNumber
 number-was [] n rest h e = let z : _≡_ {A = ℕ} 0 1 = cc in absurd (omega arith)
 number-was (b ∷ bs) n rest h e =
-    ltb-cases b 128 (λ t. (elim t [ true ↦ read b bs | false ↦ more b (readNumber bs) ]) ≡ read n rest → WasRead n rest (b ∷ bs))
+    ltb-cases b 128 (λ t. (elim t [ true ↦ read b bs | false ↦ groupBefore b (readNumber bs) ]) ≡ read n rest → WasRead n rest (b ∷ bs))
     (λ l q. last-was b n bs rest l h q)
     (λ l q. more-was b n bs rest l h (readNumber bs) (λ v w p. number-was bs v w (tail-bytes b bs h) p) q)
     e
@@ -157,7 +158,7 @@ number-was (b ∷ bs) n rest h e =
 -- in range
 pub up-to : (limit n : ℕ) (rest : List ℕ) → n ≤ limit → readUpTo limit (groups n ++ rest) ≡ read n rest
 unfolding readUpTo upTo
-up-to limit n rest h = rw (read-groups n rest, upTo, le-leb n limit h)
+up-to limit n rest h = rw (read-groups n rest, upTo, thenRead, le-leb n limit h)
 
 pub reading-cases : {A : Type 0} (r : Reading A) (P : Reading A → Type 0) → (r ≡ damaged → P damaged) → ((a : A) (w : List ℕ) → r ≡ read a w → P (read a w)) → P r
 reading-cases damaged P f g = f refl

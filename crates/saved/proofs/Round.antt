@@ -10,11 +10,10 @@ use Rattle.files.specs.declared.Table.{Table}
 use Rattle.files.specs.Table.{held, tableOf, filesOk, tableOk}
 use Rattle.files.specs.Change.{emptyFile}
 use Rattle.files.proofs.Tests.{eqb-cases}
-use Rattle.files.proofs.Laws.{Good, first-good, rest-ok, held-ok, count-ok, held-length}
+use Rattle.files.proofs.Laws.{first-good, rest-ok, held-ok, count-ok, held-length, GoodEntry}
 use Rattle.saved.specs.declared.Loading.the-variants as loading
-use Rattle.saved.specs.Groups.{groups, read}
-use Rattle.saved.specs.Save.{headBytes, entryBytes, filesBytes, saveOf}
-use Rattle.saved.specs.Load.{readSize, readEntry, before, readFiles, finish, loadOf}
+use Rattle.saved.specs.Load.{read, readSize, readEntry, readFiles, finish, loadOf, fileBefore}
+use Rattle.saved.specs.Save.{headBytes, entryBytes, filesBytes, saveOf, groups}
 use Rattle.saved.proofs.Steps.{head-none, head-some, head-yes, size-empty, size-some, entry-yes, files-yes, load-yes}
 use Rattle.saved.proofs.Numbers.{up-to}
 use Rattle.layout.specs.Numbers.{filesMax, numberMax, sizeMax, nullBlock, headMax}
@@ -23,31 +22,31 @@ use Rattle.layout.specs.Numbers.{filesMax, numberMax, sizeMax, nullBlock, headM
 empty-is : (e : Entry) → e .size ≡ 0 → e .head ≡ nullBlock → emptyFile (e .number) ≡ e
 empty-is e s h = rw (← s, ← h)
 
-size-read : (least : ℕ) (e : Entry) (rest : List ℕ) → Good least e → readSize (e .number) (groups (e .size) ++ (headBytes (e .size) (e .head) ++ rest)) ≡ read e rest
+size-read : (least : ℕ) (e : Entry) (rest : List ℕ) → GoodEntry least e → readSize (e .number) (groups (e .size) ++ (headBytes e ++ rest)) ≡ read e rest
 size-read least e rest g =
-    let q = up-to sizeMax (e .size) (headBytes (e .size) (e .head) ++ rest) (g .size-le) in
-    eqb-cases (e .size) 0 (λ _. readSize (e .number) (groups (e .size) ++ (headBytes (e .size) (e .head) ++ rest)) ≡ read e rest)
-    (λ z. size-empty (e .number) _ (e .size) _ q z ∙ rw (head-none (e .size) (e .head) z, empty-is e z (g .head-null z)))
-    (λ z. size-some (e .number) _ (e .size) _ q z ∙ rw (head-some (e .size) (e .head) z)
+    let q = up-to sizeMax (e .size) (headBytes e ++ rest) (g .size-le) in
+    eqb-cases (e .size) 0 (λ _. readSize (e .number) (groups (e .size) ++ (headBytes e ++ rest)) ≡ read e rest)
+    (λ z. size-empty (e .number) _ (e .size) _ q z ∙ rw (head-none e z, empty-is e z (g .head-null z)))
+    (λ z. size-some (e .number) _ (e .size) _ q z ∙ rw (head-some e z)
     (head-yes (e .number) (e .size) _ (e .head) rest (up-to headMax (e .head) rest (g .head-le (omega arith)))))
 
-entry-read : (least : ℕ) (e : Entry) (rest : List ℕ) → Good least e → readEntry least (entryBytes e ++ rest) ≡ read e rest
+entry-read : (least : ℕ) (e : Entry) (rest : List ℕ) → GoodEntry least e → readEntry least (entryBytes e ++ rest) ≡ read e rest
 unfolding entryBytes
 entry-read least e rest g =
-    rw (append-assoc (groups (e .number)) (groups (e .size) ++ headBytes (e .size) (e .head)) rest, append-assoc (groups (e .size)) (headBytes (e .size) (e .head)) rest)
+    rw (append-assoc (groups (e .number)) (groups (e .size) ++ headBytes e) rest, append-assoc (groups (e .size)) (headBytes e) rest)
     (entry-yes least _ (e .number) _ (up-to numberMax (e .number) _ (g .number-le)) (g .least-le) ∙ size-read least e rest g)
 
-before-read : (e : Entry) (es : List Entry) (rest : List ℕ) → before e (read es rest) ≡ read (e ∷ es) rest
-unfolding before
+before-read : (e : Entry) (es : List Entry) (rest : List ℕ) → fileBefore e (read es rest) ≡ read (e ∷ es) rest
+unfolding fileBefore
 before-read e es rest = refl
 
-pub files-read : (least : ℕ) (es : List Entry) (rest : List ℕ) → filesOk least es ≡ true → readFiles (length es) least (filesBytes es ++ rest) ≡ read es rest
+pub files-read : (least : ℕ) (es : List Entry) (rest : List ℕ) → filesOk least es ≡ true → readFiles (length es) (filesBytes es ++ rest) least ≡ read es rest
 unfolding filesBytes readFiles
 files-read least [] rest h = refl
 files-read least (e ∷ es) rest h =
     rw (append-assoc (entryBytes e) (filesBytes es) rest)
     (files-yes (length es) least _ e _ (entry-read least e (filesBytes es ++ rest) (first-good least e es h))
-    ∙ ap (before e) (files-read (suc (e .number)) es rest (rest-ok least e es h))
+    ∙ ap (fileBefore e) (files-read (suc (e .number)) es rest (rest-ok least e es h))
     ∙ before-read e es rest)
 
 finish-read : (es : List Entry) → finish (read es []) ≡ record { answer = loading.Done; table = tableOf es }

@@ -13,8 +13,8 @@ use borrow.Author.Tests.{lt-ltb, le-ltb, le-leb, lt-leb, eq-eqb, ne-eqb}
 use Rattle.files.proofs.Tests.{eqb-cases, leb-cases, bool-cases}
 use Rattle.saved.specs.declared.read.NumberRead.{NumberRead}
 use Rattle.saved.specs.declared.read.NumberRead.the-variants as number
-use Rattle.saved.specs.Groups.{Reading, damaged, read, more, readNumber, upTo, readUpTo}
-use Rattle.saved.specs.Inner.{Scaled, lastOf, numberTold, numberNext, NumberPost}
+use Rattle.saved.specs.Load.{Reading, damaged, read, readNumber, upTo, readUpTo, thenRead, groupBefore}
+use Rattle.saved.specs.inner.Steps.{Scaled, lastOf, numberTold, numberNext, NumberPost}
 use Rattle.saved.proofs.Numbers.{read-last, read-more, more-some, more-none}
 
 -- a number that follows groups worth `value`, and counts `scale`-fold
@@ -45,18 +45,18 @@ join-damaged : (value scale : ℕ) → join value scale damaged ≡ damaged
 unfolding join
 join-damaged value scale = refl
 
-more-damaged : (b : ℕ) → more b damaged ≡ damaged
-unfolding more
+more-damaged : (b : ℕ) → groupBefore b damaged ≡ damaged
+unfolding groupBefore
 more-damaged b = refl
 
 regroup : (value scale d w : ℕ) → value + scale * (d + 128 * w) ≡ value + scale * d + scale * 128 * w
 regroup value scale d w = rw (mul-add scale d (128 * w), ← mul-assoc scale 128 w, ← add-assoc value (scale * d) (scale * 128 * w))
 
 -- a group that is not the last
-pub join-more : (value scale b : ℕ) → zero < scale → (r : Reading ℕ) → join value scale (more b r) ≡ join (value + scale * (b - 128)) (scale * 128) r
+pub join-more : (value scale b : ℕ) → zero < scale → (r : Reading ℕ) → join value scale (groupBefore b r) ≡ join (value + scale * (b - 128)) (scale * 128) r
 join-more value scale b h damaged = rw (more-damaged b) (join-damaged value scale ∙ sym (join-damaged (value + scale * (b - 128)) (scale * 128)))
 join-more value scale b h (read w rest) =
-    eqb-cases w 0 (λ _. join value scale (more b (read w rest)) ≡ join (value + scale * (b - 128)) (scale * 128) (read w rest))
+    eqb-cases w 0 (λ _. join value scale (groupBefore b (read w rest)) ≡ join (value + scale * (b - 128)) (scale * 128) (read w rest))
     (λ z. rw (more-none b w rest z) (join-damaged value scale ∙ sym (join-none (value + scale * (b - 128)) (scale * 128) w rest (omega arith) z)))
     (λ z. rw (more-some b w rest z)
     (join-some value scale (b - 128 + 128 * w) rest (λ q. z (omega arith))
@@ -72,7 +72,7 @@ join-large limit value scale h k (read w rest) =
     (λ z. rw (join-none value scale w rest k z))
     (λ z.
     let p : scale * 1 ≤ scale * w = mul-le-mul (le-refl scale) (omega arith) in
-    rw (join-some value scale w rest z, upTo, lt-leb (value + scale * w) limit (omega arith)))
+    rw (join-some value scale w rest z, upTo, thenRead, lt-leb (value + scale * w) limit (omega arith)))
 
 -- the last group, case by case
 pub not-long : (scale b : ℕ) → (b ≡ 0 → ⊥) → (ltb 1 scale && eqb b 0) ≡ false

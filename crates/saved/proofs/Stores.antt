@@ -15,8 +15,7 @@ use Rattle.files.specs.declared.Table.{Table}
 use Rattle.files.specs.Table.{noEntry, held, tableOk}
 use Rattle.files.proofs.Laws.{slice-end}
 use Rattle.saved.specs.declared.Saved.the-variants as saved
-use Rattle.saved.specs.Groups.{groups}
-use Rattle.saved.specs.Save.{entryBytes, filesBytes, saveOf, savable, savedOf, bufferOf}
+use Rattle.saved.specs.Save.{entryBytes, filesBytes, saveOf, savable, savedOf, bufferOf, groups}
 use Rattle.saved.proofs.Steps.{head-none, head-some}
 use Rattle.saved.proofs.Numbers.{groups-last, groups-more}
 
@@ -43,7 +42,7 @@ module _ (l : List ℕ) (at : ℕ) (e : Entry) (a b : ℕ) (m n : List ℕ)
 
   pub entry-none : e .size ≡ 0 → (b ≡ at + length (entryBytes e)) × (n ≡ sets l at (entryBytes e))
   unfolding entryBytes
-  entry-none z = rw (head-none (e .size) (e .head) z, append-nil (groups (e .size))) (start-end, start)
+  entry-none z = rw (head-none e z, append-nil (groups (e .size))) (start-end, start)
 
   pub entry-some : (c : ℕ) (o : List ℕ) → (e .size ≡ 0 → ⊥) → c ≡ b + length (groups (e .head)) → o ≡ sets n b (groups (e .head))
       → (c ≡ at + length (entryBytes e)) × (o ≡ sets l at (entryBytes e))
@@ -53,7 +52,7 @@ module _ (l : List ℕ) (at : ℕ) (e : Entry) (a b : ℕ) (m n : List ℕ)
       let h = groups (e .head) in
       let q : o ≡ sets l at (xs ++ h) = po ∙ rw (start, start-end) (sym (stores l at xs h)) in
       let k : c ≡ at + length (xs ++ h) = rw (length-append xs h) (omega (arith, start-end)) in
-      rw (head-some (e .size) (e .head) z, ← append-assoc (groups (e .number)) (groups (e .size)) h) (k, q)
+      rw (head-some e z, ← append-assoc (groups (e .number)) (groups (e .size)) h) (k, q)
 
 -- the files from place i on: the first of them, then the rest
 module _ (fs : List Entry) (i count : ℕ) (h : i < count) (k : count ≤ length fs) where

@@ -1,5 +1,4 @@
 -- The definitions that the contracts of `saved` cite.
-pub mod Groups
 pub mod Save
 pub mod Load
-pub mod Inner
+pub mod inner

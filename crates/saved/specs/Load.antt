@@ -1,52 +1,64 @@
 -- Load: exact form only, else -84 and no table.
 use mathlib.Core.Bool.{true, false}
 use mathlib.Core.List.{List, [], _∷_}
-use Prim.Native.Nat.{ℕ, zero, suc}
-use lib.Dec.{leb, eqb}
-use lib.IntN.{ℤ}
+use Prim.Native.Nat.{ℕ, zero, suc, _+_, _-_, _*_}
+use lib.Dec.{ltb, leb, eqb}
 use Rattle.files.specs.declared.Entry.{Entry}
 use Rattle.files.specs.Table.{tableOf}
 use Rattle.files.specs.Change.{emptyFile}
-use Rattle.saved.specs.declared.Loading.{Loading}
 use Rattle.saved.specs.declared.Loading.the-variants as loading
 use Rattle.saved.specs.declared.Loaded.{Loaded}
-use Rattle.saved.specs.Groups.{Reading, damaged, read, readUpTo}
-use Rattle.layout.specs.Numbers.{filesMax, numberMax, sizeMax, headMax, accepted, damaged-card}
+use Rattle.layout.specs.Numbers.{filesMax, numberMax, sizeMax, headMax}
 
--- the head, at most 65,535
-unfoldable pub readHead : ℕ → ℕ → List ℕ → Reading Entry
-readHead number size bs =
-    elim (readUpTo headMax bs) [
-      | damaged ↦ damaged
-      | read head rest ↦ read (record { number = number; size = size; head = head }) rest
-    ]
+-- what reading some bytes gives: bytes that are damaged, or what was read and the bytes that follow
+pub data Reading (A : Type 0) : Type 0 where
+  damaged : Reading A
+  read : A → List ℕ → Reading A
+
+-- a reading, and another of the bytes that follow
+abbrev pub thenRead : {A C : Type 0} → Reading A → (A → List ℕ → Reading C) → Reading C
+thenRead damaged f = damaged
+thenRead (read a rest) f = f a rest
+
+-- a group and the number after it, which is not 0: else the form would not be the shortest
+unfoldable pub groupBefore : ℕ → Reading ℕ → Reading ℕ
+groupBefore b r = thenRead r (λ v rest. elim (eqb v 0) [ true ↦ damaged | false ↦ read (b - 128 + 128 * v) rest ])
+
+-- a number: its last group has no top bit
+unfoldable pub readNumber : List ℕ → Reading ℕ
+readNumber [] = damaged
+readNumber (b ∷ bs) = elim (ltb b 128) [ true ↦ read b bs | false ↦ groupBefore b (readNumber bs) ]
+
+-- a number in range
+unfoldable pub upTo : ℕ → Reading ℕ → Reading ℕ
+upTo limit r = thenRead r (λ v rest. elim (leb v limit) [ true ↦ read v rest | false ↦ damaged ])
+
+unfoldable pub readUpTo : ℕ → List ℕ → Reading ℕ
+readUpTo limit bs = upTo limit (readNumber bs)
+
+-- the head of file e, at most 65,535
+unfoldable pub readHead : Entry → List ℕ → Reading Entry
+readHead e bs = thenRead (readUpTo headMax bs) (λ head rest. read (record { number = e .number; size = e .size; head = head }) rest)
 
 -- the size, up to the largest, and the head unless it is 0
 unfoldable pub readSize : ℕ → List ℕ → Reading Entry
 readSize number bs =
-    elim (readUpTo sizeMax bs) [
-      | damaged ↦ damaged
-      | read size rest ↦ elim (eqb size 0) [ true ↦ read (emptyFile number) rest | false ↦ readHead number size rest ]
-    ]
+    thenRead (readUpTo sizeMax bs)
+    (λ size rest. elim (eqb size 0) [ true ↦ read (emptyFile number) rest | false ↦ readHead (record { number = number; size = size; head = 0 }) rest ])
 
 -- a file whose number is from `least` to 65,535
 unfoldable pub readEntry : ℕ → List ℕ → Reading Entry
 readEntry least bs =
-    elim (readUpTo numberMax bs) [
-      | damaged ↦ damaged
-      | read number rest ↦ elim (leb least number) [ true ↦ readSize number rest | false ↦ damaged ]
-    ]
+    thenRead (readUpTo numberMax bs) (λ number rest. elim (leb least number) [ true ↦ readSize number rest | false ↦ damaged ])
 
 -- a file before those that follow
-unfoldable pub before : Entry → Reading (List Entry) → Reading (List Entry)
-before e damaged = damaged
-before e (read es rest) = read (e ∷ es) rest
+unfoldable pub fileBefore : Entry → Reading (List Entry) → Reading (List Entry)
+fileBefore e r = thenRead r (λ es rest. read (e ∷ es) rest)
 
 -- k files, numbers rising from `least` on
-unfoldable pub readFiles : ℕ → ℕ → List ℕ → Reading (List Entry)
-readFiles zero least bs = read [] bs
-readFiles (suc k) least bs =
-    elim (readEntry least bs) [ damaged ↦ damaged | read e rest ↦ before e (readFiles k (suc (e .number)) rest) ]
+unfoldable pub readFiles : ℕ → List ℕ → ℕ → Reading (List Entry)
+readFiles zero bs least = read [] bs
+readFiles (suc k) bs least = thenRead (readEntry least bs) (λ e rest. fileBefore e (readFiles k rest (suc (e .number))))
 
 -- a refusal hands out the table of no files
 abbrev pub refusedLoad : Loaded
@@ -60,10 +72,4 @@ finish (read es (b ∷ bs)) = refusedLoad
 
 -- at most 32 files, then each of them, then nothing
 unfoldable pub loadOf : List ℕ → Loaded
-loadOf bytes =
-    elim (readUpTo filesMax bytes) [ damaged ↦ refusedLoad | read count rest ↦ finish (readFiles count 0 rest) ]
-
--- -84 saved table not in exact form
-abbrev pub loadingCode : Loading → ℤ
-loadingCode loading.Done = accepted
-loadingCode loading.Damaged = damaged-card
+loadOf bytes = finish (thenRead (readUpTo filesMax bytes) (λ count rest. readFiles count rest 0))

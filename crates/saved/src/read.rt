@@ -8,7 +8,7 @@ ghost use mathlib.Core.Path.{_≡_};
 ghost use Prim.Native.Nat.{_≤_, _<_};
 ghost use lib.ListN.{drop};
 ghost use Rattle.saved.specs.Load.{readFiles, refusedLoad, finish};
-ghost use Rattle.saved.specs.Inner.{Scaled, lastOf, NumberPost, EntryPost};
+ghost use Rattle.saved.specs.inner.Steps.{Scaled, lastOf, NumberPost, EntryPost};
 ghost use Rattle.layout.specs.Numbers.{filesMax};
 
 // A number that was read, and the place after it.
@@ -133,7 +133,7 @@ pub fn damaged_load() -> Loaded
 // The files from place `at` on, which end where the bytes do.
 pub fn read_files(bytes: &[u8], at: usize, count: u32) -> Loaded
     requires { ⌜ count ≤ filesMax ⌝ }
-    ensures { λ r. ⌜ r ≡ finish (readFiles count 0 (drop at (now (bytes .entry)))) ⌝ }
+    ensures { λ r. ⌜ r ≡ finish (readFiles count (drop at (now (bytes .entry))) 0) ⌝ }
 {
     let mut u = Table::empty();
     let mut least: u32 = 0;

@@ -7,9 +7,8 @@ ghost use Prim.Native.Nat.{_+_, _≤_};
 ghost use lib.ListN.{length};
 ghost use lib.Seq.{sets};
 ghost use Rattle.files.specs.Table.{tableOk};
-ghost use Rattle.saved.specs.Groups.{groups};
-ghost use Rattle.saved.specs.Save.{entryBytes, saveOf};
-ghost use Rattle.saved.specs.Inner.{Counted};
+ghost use Rattle.saved.specs.Save.{entryBytes, saveOf, groups};
+ghost use Rattle.saved.specs.inner.Steps.{Counted};
 
 // How many groups a number has.
 fn number_length(n: u32) -> u32

@@ -12,8 +12,11 @@ has [] b = false
 has (x ∷ xs) b = eqb x b || has xs b
 
 -- bit k of a map, eight to a byte, low bit first: bit k % 8 of byte k / 8
+abbrev pub bitAt : List ℕ → ℕ → ℕ
+bitAt map k = getD map (k / 8) 0 / 2 ^ (k % 8) % 2
+
 abbrev pub bitIn : List ℕ → ℕ → Bool
-bitIn map k = eqb (getD map (k / 8) 0 / 2 ^ (k % 8) % 2) 1
+bitIn map k = eqb (bitAt map k) 1
 
 -- the map with that bit set
 abbrev pub withBitIn : List ℕ → ℕ → List ℕ

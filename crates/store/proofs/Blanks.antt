@@ -6,10 +6,10 @@ use native.Mathlib.Nat.{min-le-left, min-le-right}
 use native.Mathlib.Omega.{arith}
 use lib.ListN.{length, take, drop, replicate, length-take, length-drop, length-replicate}
 use Rattle.device.specs.declared.Programmed.{Programmed}
-use Rattle.device.specs.Bounds.{Blank}
-use Rattle.device.specs.Device.{programOf, ProgramGives}
 use Rattle.device.proofs.Blanks.{blank-part, blank-stored, blank-programmed}
-use Rattle.store.specs.Write.{fronted}
+use Rattle.store.specs.inner.Write.{fronted}
+use Rattle.device.specs.inner.Steps.{programOf, ProgramGives}
+use Rattle.device.specs.inner.Bounds.{Blank}
 
 -- gap and data end where the data ends
 front-ends : (pos s len gap run : ℕ) → gap ≤ pos - s → run ≤ len - (s - pos) → gap + run ≤ pos + len - s

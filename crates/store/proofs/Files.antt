@@ -11,7 +11,6 @@ use Rattle.ctz.specs.declared.Found.the-variants as found
 use Rattle.ctz.specs.Lookup.{walkTo}
 use Rattle.files.specs.declared.Table.{Table}
 use Rattle.files.specs.Table.{file}
-use Rattle.files.specs.Change.{putOf}
 use Rattle.window.specs.declared.Lookahead.{Lookahead}
 use Rattle.store.specs.declared.Outcome.{Outcome}
 use Rattle.store.specs.declared.Outcome.the-variants as outcome
@@ -19,12 +18,17 @@ use Rattle.store.specs.declared.Stored.{Stored}
 use Rattle.store.specs.declared.growths.Writing as declared
 use Rattle.store.specs.declared.growths.Writing.the-variants as writing
 use Rattle.store.specs.declared.growths.Wrote.{Wrote}
-use Rattle.store.specs.Write.{zeros, Writing, Written, NoRoom, Corrupt, WriteOut}
-use Rattle.store.specs.Store.{StoreOut, stays, left, written, writtenOf, puts, writeFile, shrunk, shrinks, truncateFile}
-use Rattle.store.specs.Put.{wroteOf, WroteGives, finishOf}
-use Rattle.store.specs.Calls.{StoreGives}
+use Rattle.store.specs.Write.{zeros}
+use Rattle.store.specs.Store.{storedOf, StoreOut, left, written, writtenOf}
+use Rattle.store.specs.inner.Put.{wroteOf, WroteGives, finishOf}
 use Rattle.store.proofs.Puts.{puts-as-gap}
 use Rattle.layout.specs.Numbers.{sizeMax, nullBlock}
+use Rattle.trials.specs.Loop.{Writing, Written, NoRoom, Corrupt, WriteOut}
+use Rattle.store.specs.inner.Store.{puts, stays, writeFile, shrunk, shrinks, truncateFile}
+use Rattle.card.specs.inner.Cards.{cardWith}
+use Rattle.layout.specs.inner.Served.{blockList}
+use Rattle.files.specs.Change.{withList}
+use Rattle.store.specs.inner.Gives.{StoreGives}
 
 pub gives : {o : StoreOut} {a : Outcome} {w : Lookahead} {t : Table} {image : List ℕ} {r : Stored} → o ≡ left a w t image → r ≡ stays a w t
     → StoreGives o r image
@@ -32,7 +36,7 @@ gives e f = rw (e, f) (record { stored = refl; image = refl })
 
 -- ---- the table changes last
 
-pub finish-written : (t : Table) (i h s : ℕ) {a : declared.Writing} {u : Table} (w : Lookahead) → a ≡ writing.Written h s → u ≡ putOf t i s h
+pub finish-written : (t : Table) (i h s : ℕ) {a : declared.Writing} {u : Table} (w : Lookahead) → a ≡ writing.Written h s → u ≡ withList t i (record { head = h; size = s })
     → record { answer = outcome.Done; window = w; table = u } ≡ finishOf t i a w
 finish-written t i h s w e f = rw (e, f)
 
@@ -79,39 +83,39 @@ module _ (B N l : ℕ) (image health : List ℕ) (w : Lookahead) (t : Table) (i 
 
 module _ (B N : ℕ) (image : List ℕ) (w : Lookahead) (t : Table) (i size : ℕ) where
   -- to 0
-  pub shrinks-none : size ≡ 0 → shrinks B N image w t i size ≡ left outcome.Done w (putOf t i 0 nullBlock) image
+  pub shrinks-none : size ≡ 0 → shrinks B N image w t i size ≡ left outcome.Done w (withList t i (record { head = nullBlock; size = 0 })) image
   unfolding shrinks
   shrinks-none z = rw (shrinks, eq-eqb size 0 z)
 
   pub shrinks-some : (size ≡ 0 → ⊥)
-      → shrinks B N image w t i size ≡ shrunk t i size w image (walkTo image B N (file t i .head) (file t i .size) (size - 1))
+      → shrinks B N image w t i size ≡ shrunk t i size w image (walkTo (cardWith B N image) (blockList (file t i .head) (file t i .size)) (size - 1))
   unfolding shrinks
   shrinks-some z = rw (shrinks, ne-eqb size 0 z)
 
-  pub shrinks-empty : {u : Table} → size ≡ 0 → u ≡ putOf t i 0 nullBlock
-      → stays outcome.Done w u ≡ shrinks B N image w t i size .stored
+  pub shrinks-empty : {u : Table} → size ≡ 0 → u ≡ withList t i (record { head = nullBlock; size = 0 })
+      → stays outcome.Done w u ≡ storedOf (shrinks B N image w t i size)
   shrinks-empty z f = rw (shrinks-none z, f)
 
-  module _ (z : size ≡ 0 → ⊥) {x : Found} (g : x ≡ walkTo image B N (file t i .head) (file t i .size) (size - 1)) where
-    pub shrinks-found : (k off hops : ℕ) {u : Table} → x ≡ found.At k off hops → u ≡ putOf t i size k
-        → stays outcome.Done w u ≡ shrinks B N image w t i size .stored
+  module _ (z : size ≡ 0 → ⊥) {x : Found} (g : x ≡ walkTo (cardWith B N image) (blockList (file t i .head) (file t i .size)) (size - 1)) where
+    pub shrinks-found : (k off hops : ℕ) {u : Table} → x ≡ found.At k off hops → u ≡ withList t i (record { head = k; size = size })
+        → stays outcome.Done w u ≡ storedOf (shrinks B N image w t i size)
     shrinks-found k off hops e f = rw (shrinks-some z, ← g, e, f)
 
-    pub shrinks-damaged : x ≡ found.Damaged → record { answer = outcome.Damaged; window = w; table = t } ≡ shrinks B N image w t i size .stored
+    pub shrinks-damaged : x ≡ found.Damaged → record { answer = outcome.Damaged; window = w; table = t } ≡ storedOf (shrinks B N image w t i size)
     shrinks-damaged e = rw (shrinks-some z, ← g, e)
 
-    pub shrinks-refused : x ≡ found.Refused → record { answer = outcome.Damaged; window = w; table = t } ≡ shrinks B N image w t i size .stored
+    pub shrinks-refused : x ≡ found.Refused → record { answer = outcome.Damaged; window = w; table = t } ≡ storedOf (shrinks B N image w t i size)
     shrinks-refused e = rw (shrinks-some z, ← g, e)
 
   -- card and window stay as they were
-  pub shrinks-keeps : (shrinks B N image w t i size .image ≡ image) × (shrinks B N image w t i size .stored .window ≡ w)
+  pub shrinks-keeps : (shrinks B N image w t i size .state .image ≡ image) × (shrinks B N image w t i size .state .window ≡ w)
   unfolding shrinks
-  shrinks-keeps = go (eqb size 0) (walkTo image B N (file t i .head) (file t i .size) (size - 1))
+  shrinks-keeps = go (eqb size 0) (walkTo (cardWith B N image) (blockList (file t i .head) (file t i .size)) (size - 1))
     where
       pick : Bool → Found → StoreOut
-      pick b x = elim b [ true ↦ left outcome.Done w (putOf t i 0 nullBlock) image | false ↦ shrunk t i size w image x ]
+      pick b x = elim b [ true ↦ left outcome.Done w (withList t i (record { head = nullBlock; size = 0 })) image | false ↦ shrunk t i size w image x ]
 
-      go : (b : Bool) (x : Found) → (pick b x .image ≡ image) × (pick b x .stored .window ≡ w)
+      go : (b : Bool) (x : Found) → (pick b x .state .image ≡ image) × (pick b x .state .window ≡ w)
       go true x = (refl, refl)
       go false (found.At k off hops) = (refl, refl)
       go false found.Damaged = (refl, refl)

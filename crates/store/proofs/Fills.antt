@@ -11,20 +11,23 @@ use lib.ListN.{length, take, drop, replicate, length-drop, drop-of-length-le}
 use lib.Seq.{take-all, take-nil}
 use Rattle.device.specs.declared.Programmed.{Programmed}
 use Rattle.device.specs.declared.Programmed.the-variants.{Stored, Refused}
-use Rattle.device.specs.Bounds.{Room, Blank}
-use Rattle.device.specs.Device.{stored, refusesProgram, ProgramOut, programOf, ProgramGives}
+use Rattle.device.specs.Device.{stored, refusesProgram}
 use Rattle.device.proofs.Blanks.{blank-part}
 use Rattle.device.proofs.Steps.{program-stored, told-stored, told-refused}
 use Rattle.files.specs.declared.Entry.{Entry}
-use Rattle.grow.specs.Attempt.{Linking}
+use Rattle.grow.specs.inner.Attempt.{Linking}
 use Rattle.grow.proofs.Rooms.{room-of}
 use Rattle.store.specs.declared.block.Filled.{Filled}
 use Rattle.store.specs.declared.block.Filled.the-variants.{Spoiled}
-use Rattle.store.specs.Write.{Job, over, new, Look, fronted}
-use Rattle.store.specs.Store.{lookIn, jobOf}
-use Rattle.store.specs.Fill.{frontOf, FillOut, share, tailOf, fillOf, FillGives, Tailing, Filling}
+use Rattle.store.specs.Write.{Job, over, new, Look}
+use Rattle.store.specs.Store.{jobOf}
+use Rattle.store.specs.inner.Fill.{frontOf, FillOut, share, tailOf, fillOf, FillGives, Tailing, Filling}
 use Rattle.store.proofs.Blanks.{front-blank}
 use Rattle.layout.specs.Numbers.{sizeMax}
+use Rattle.store.specs.inner.Write.{fronted}
+use Rattle.store.specs.inner.Store.{lookIn}
+use Rattle.device.specs.inner.Bounds.{spot, RoomIn, Blank}
+use Rattle.device.specs.inner.Steps.{ProgramOut, programOf, ProgramGives}
 
 -- ---- a run of the data, cut to what there is
 
@@ -75,7 +78,7 @@ module _ (health : List ℕ) (B k off s n pos : ℕ) (src img : List ℕ) where
     unfolding fronted
     front-goes e y from run ey ef er {q} {img₂} g =
         let t = told-stored health B k off (replicate gap 0) img (sym (p .answer) ∙ e) in
-        let d : img₁ ≡ stored B k off (replicate gap 0) img = p .image ∙ t .1 in
+        let d : img₁ ≡ stored B img (spot k off) (replicate gap 0) = p .image ∙ t .1 in
         let u : gap ≡ min (pos - s) n = eg ∙ ap (λ (z : ℕ). min z n) ex in
         let v : take run (drop from src) ≡ take (n - gap) (drop (s - pos) src) = rw (er, ef, ey) (sym (run-cut (s - pos) (n - gap) src)) in
         rw (front-stored (t .0), fronted, ← u, ← v, ← d) (rw (program-stored health B k (off + gap) (take run (drop from src)) img₁ (t .0)) at g)
@@ -143,7 +146,7 @@ module _ {B N : ℕ} {e : Entry} {pos : ℕ} {src : List ℕ} {k off s : ℕ} {i
   fits : off + m ≤ B
   fits = share-fits B (jobOf e pos src) off s m shared (f .room)
 
-  pub front-asks : Room B k off m image health × (length src ≤ sizeMax) × Blank B k off m image
+  pub front-asks : RoomIn B k off m image health × (length src ≤ sizeMax) × Blank B k off m image
   front-asks =
       let link : Linking B N k image health = record { card = f .card; known = f .known; block = f .block } in
       (room-of off m image link refl fits, omega (arith, f .fits), blank-part off m (omega arith) (omega (arith, fits)) (f .clean))

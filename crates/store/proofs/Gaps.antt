@@ -11,9 +11,11 @@ use lib.ListN.{take, drop, length-replicate}
 use Rattle.device.specs.Device.{stored, refusesProgram}
 use Rattle.grow.specs.declared.Growth.{Growth}
 use Rattle.grow.specs.declared.Growth.the-variants as growth
-use Rattle.grow.specs.Supply.{Took}
-use Rattle.grow.specs.Grow.{GrowOut, growOf}
-use Rattle.store.specs.Write.{Job, WriteOut, Look, zeros, new, kept, over, fronted, filledOf, grownOf, writeOf, wanted, looked, firstHead, putOf}
+use Rattle.store.specs.Write.{Job, Look, zeros, new, kept, over, wanted, looked, firstHead}
+use Rattle.trials.specs.Loop.{Took, WriteOut}
+use Rattle.grow.specs.Extend.{GrowOut}
+use Rattle.grow.specs.inner.Grow.{growOf}
+use Rattle.store.specs.inner.Write.{fronted, filledOf, grownOf, writeOf, putOf}
 
 -- n zeros at the old size
 abbrev pub zeroing : ℕ → ℕ → ℕ → Job
@@ -139,7 +141,7 @@ module _ {W : Type 0} (look : List ℕ → ℕ → Look) (tries : W → ℕ) (al
   put-as-gap w img =
       let q : kept (zeroing head old n) ≡ kept (gapping head old size) = omega arith in
       rw (putOf, wanted-as-gap)
-      (either-same (looked look img (wanted B (gapping head old size))) _ _ _ _
-      (zeros-as-gap (suc (tries w)) w (firstHead look img (kept (zeroing head old n))) (kept (zeroing head old n)) img (omega arith)
-      ∙ ap (λ (x : ℕ). writeOf look tries alloc (suc (tries w)) health B N (gapping head old size) w (firstHead look img x) x img) q)
+      (either-same (looked (look img) (wanted B (gapping head old size))) _ _ _ _
+      (zeros-as-gap (suc (tries w)) w (firstHead (look img) (kept (zeroing head old n))) (kept (zeroing head old n)) img (omega arith)
+      ∙ ap (λ (x : ℕ). writeOf look tries alloc (suc (tries w)) health B N (gapping head old size) w (firstHead (look img) x) x img) q)
       refl)

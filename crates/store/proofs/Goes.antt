@@ -7,27 +7,30 @@ use lib.ListN.{length}
 use Rattle.files.specs.declared.Entry.{Entry}
 use Rattle.files.specs.declared.Table.{Table}
 use Rattle.window.specs.declared.Lookahead.{Lookahead}
-use Rattle.window.specs.Value.{Valid}
 use Rattle.grow.specs.declared.Growth.the-variants as growth
 use Rattle.grow.specs.declared.Grew.{Grew}
-use Rattle.grow.specs.Extend.{extendIn, GrewGives, Extending}
 use Rattle.grow.proofs.Grown.{Grows, extend-grows}
 use Rattle.store.specs.declared.block.Filled.{Filled}
 use Rattle.store.specs.declared.block.Filled.the-variants.{Done, Spoiled, Damaged}
 use Rattle.store.specs.declared.growths.Writing.the-variants as writing
 use Rattle.store.specs.declared.growths.Wrote.{Wrote}
-use Rattle.store.specs.Write.{Writing, Written, NoRoom, Corrupt, WriteOut, write-out, new}
-use Rattle.store.specs.Store.{lookIn, jobOf}
-use Rattle.store.specs.Fill.{fillOf, FillGives, Filling}
-use Rattle.store.specs.Put.{onBy, onFrom, wroteOf, WroteGives, Putting}
+use Rattle.store.specs.Write.{new}
+use Rattle.store.specs.Store.{jobOf}
+use Rattle.store.specs.inner.Fill.{fillOf, FillGives, Filling}
+use Rattle.store.specs.inner.Put.{onBy, onFrom, wroteOf, WroteGives, Putting}
 use Rattle.store.proofs.Turns as turns
 use Rattle.layout.specs.Numbers.{sizeMax}
+use Rattle.grow.specs.inner.Extend.{extendIn, Extending}
+use Rattle.trials.specs.Loop.{Writing, Written, NoRoom, Corrupt, WriteOut, write-out}
+use Rattle.store.specs.inner.Store.{lookIn}
+use Rattle.window.specs.inner.Facts.{ValidWindow}
+use Rattle.grow.specs.inner.Gives.{GrewGives}
 
 -- window w, the list (h, s) and image img, in the middle of a write from window w₀, the list (h₀, s₀) and image img₀
 pub record Rest (B N l : ℕ) (health : List ℕ) (t : Table) (e : Entry) (pos : ℕ) (src : List ℕ) (w₀ : Lookahead) (h₀ s₀ : ℕ) (img₀ : List ℕ)
     (w : Lookahead) (h s : ℕ) (img : List ℕ) : Type 0 where
   pub long : length img ≡ length img₀
-  pub valid : Valid w N l
+  pub valid : ValidWindow w N l
   pub growths : ℕ
   pub left : w .ckpoint < growths
   pub same : onFrom B N l health t e pos src w₀ h₀ s₀ img₀ ≡ onBy growths B N l health t e pos src w h s img
@@ -100,7 +103,7 @@ module _ {B N l : ℕ} {health : List ℕ} {t : Table} {e : Entry} {pos : ℕ} {
         grows : Grows B N l (w .ckpoint) (extendIn B N l health t w h s img)
         grows = extend-grows h rest-extends
 
-        valid-on : Valid (g .window) N l
+        valid-on : ValidWindow (g .window) N l
         valid-on = rw (p .window) (grows .valid)
 
         -- with a block

@@ -8,14 +8,14 @@ use native.Mathlib.Omega.{arith}
 use borrow.Author.Tests.{lt-ltb, le-ltb, ltb-true, ltb-false}
 use lib.Dec.{ltb}
 use Rattle.layout.specs.Layout.{indexAt, offsetAt, start}
-use Rattle.layout.specs.Place.{Served}
 use Rattle.layout.proofs.Places.{index-mono}
 use Rattle.layout.proofs.Served.{served, index-in, index-found}
 use Rattle.store.specs.declared.old.Looked.the-variants as looked-as
 use Rattle.store.specs.Write.{Look, starts, looked, firstHead}
-use Rattle.store.specs.Lookups.{lookedOf, keptWanted, tailWanted, keptOf}
+use Rattle.store.specs.inner.Lookups.{lookedOf, keptWanted, tailWanted, keptOf}
 use Rattle.store.proofs.Index.{index-within, index-start, start-before, index-some, index-none, start-behind, index-behind}
 use Rattle.store.proofs.Looks.{looked-more, looked-lost, looked-none}
+use Rattle.layout.specs.inner.Served.{Served}
 
 module _ (look : List ℕ → ℕ → Look) (img : List ℕ) where
   -- ---- the head of the first growth
@@ -26,7 +26,7 @@ module _ (look : List ℕ → ℕ → Look) (img : List ℕ) where
     head-none e = rw e
 
     -- the block of byte q - 1 is the last that is looked for
-    head-last : (p r : ℕ) → q ≡ suc p → looked look img (keptWanted B q) ≡ looked look img (r ∷ []) → look img r ≡ look img p
+    head-last : (p r : ℕ) → q ≡ suc p → looked (look img) (keptWanted B q) ≡ looked (look img) (r ∷ []) → look img r ≡ look img p
         → lookedOf (look img p) ≡ lookedOf (keptOf look B img q)
     unfolding keptOf firstHead
     head-last p r e w s = go (look img p) refl
@@ -63,7 +63,7 @@ module _ (look : List ℕ → ℕ → Look) (img : List ℕ) where
             → lookedOf (look img (q - 1)) ≡ lookedOf (keptOf look B img q)
         head-inside k a b e =
             head-last (q - 1) (start B (indexAt B q)) (omega arith)
-            (ap (looked look img) (wanted-both (omega arith) (omega arith)) ∙ looked-more look img _ _ k (before (omega arith) ∙ e))
+            (ap (looked (look img)) (wanted-both (omega arith) (omega arith)) ∙ looked-more look img _ _ k (before (omega arith) ∙ e))
             (same _ _ (index-start h ∙ sym (index-within h (q - 1) (omega arith) (omega arith))))
 
         -- at a border
@@ -72,19 +72,19 @@ module _ (look : List ℕ → ℕ → Look) (img : List ℕ) where
           where
             at-border : start B (indexAt B q) ≡ q → lookedOf (look img (q - 1)) ≡ lookedOf (keptOf look B img q)
             at-border s =
-                head-last (q - 1) (start B (indexAt B q - 1)) (omega arith) (ap (looked look img) (wanted-border (omega arith) (omega arith)))
+                head-last (q - 1) (start B (indexAt B q - 1)) (omega arith) (ap (looked (look img)) (wanted-border (omega arith) (omega arith)))
                 (same _ _ (start-before h (omega arith) ∙ ap (λ (x : ℕ). indexAt B (x - 1)) s))
 
         -- in the first block
         pub head-first : first ≤ 0 → 0 < q → lookedOf (look img (q - 1)) ≡ lookedOf (keptOf look B img q)
         head-first a b =
-            head-last (q - 1) (start B (indexAt B q)) (omega arith) (ap (looked look img) (wanted-first (omega arith) b))
+            head-last (q - 1) (start B (indexAt B q)) (omega arith) (ap (looked (look img)) (wanted-first (omega arith) b))
             (same _ _ (index-start h ∙ sym (index-within h (q - 1) (omega arith) (omega arith))))
 
   -- ---- the tail
 
   module _ (B old : ℕ) where
-    pub tail-end : (p : ℕ) → old ≤ p → true ≡ looked look img (tailWanted B p old)
+    pub tail-end : (p : ℕ) → old ≤ p → true ≡ looked (look img) (tailWanted B p old)
     unfolding looked
     tail-end p h = rw (le-ltb p old h)
 
@@ -93,13 +93,13 @@ module _ (look : List ℕ → ℕ → Look) (img : List ℕ) where
       unfolding starts
       tail-cons = rw (lt-ltb p old l, add-one (indexAt B (old - 1) - indexAt B p), starts)
 
-      pub tail-lost : look img p ≡ Look.Lost → false ≡ looked look img (tailWanted B p old)
-      tail-lost e = sym (ap (looked look img) tail-cons ∙ looked-lost look img _ _ (same _ (index-start h) ∙ e))
+      pub tail-lost : look img p ≡ Look.Lost → false ≡ looked (look img) (tailWanted B p old)
+      tail-lost e = sym (ap (looked (look img)) tail-cons ∙ looked-lost look img _ _ (same _ (index-start h) ∙ e))
 
       pub tail-turn : (k r : ℕ) → look img p ≡ Look.Found k → r ≡ p + (B - offsetAt B p) → r < 2 ^ 32
-          → looked look img (tailWanted B p old) ≡ looked look img (tailWanted B r old)
+          → looked (look img) (tailWanted B p old) ≡ looked (look img) (tailWanted B r old)
       unfolding starts
-      tail-turn k r e f w = ap (looked look img) tail-cons ∙ looked-more look img _ _ k (same _ (index-start h) ∙ e) ∙ ap (looked look img) (rest (ltb r old) refl)
+      tail-turn k r e f w = ap (looked (look img)) tail-cons ∙ looked-more look img _ _ k (same _ (index-start h) ∙ e) ∙ ap (looked (look img)) (rest (ltb r old) refl)
         where
           behind : r ≡ start B (suc (indexAt B p))
           behind = f ∙ start-behind h

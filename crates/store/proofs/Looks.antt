@@ -5,9 +5,7 @@ use mathlib.Core.List.{List, [], _∷_, _++_}
 use Prim.Native.Nat.{ℕ, suc, _+_, _-_, _^_, _≤_, _<_}
 use native.Mathlib.Omega.{arith}
 use Rattle.layout.specs.Layout.{indexAt, offsetAt, start}
-use Rattle.layout.specs.Place.{Served}
 use Rattle.layout.proofs.Served.{served, index-below}
-use Rattle.card.specs.Blocks.{pointer}
 use Rattle.ctz.specs.declared.Found.{Found}
 use Rattle.ctz.specs.declared.Found.the-variants as found
 use Rattle.ctz.specs.Lookup.{walk, walkTo}
@@ -17,9 +15,14 @@ use Rattle.ctz.proofs.Through.{placed, walk-placed, next-at, next-lost}
 use Rattle.files.specs.declared.Entry.{Entry}
 use Rattle.store.specs.declared.old.Looked.the-variants as looked-as
 use Rattle.store.specs.Write.{Look, looked}
-use Rattle.store.specs.Store.{lookOf, lookIn}
-use Rattle.store.specs.Lookups.{lookedOf, Looking, Behind}
+use Rattle.store.specs.Store.{lookOf}
+use Rattle.store.specs.inner.Lookups.{lookedOf, Looking, Behind}
 use Rattle.store.proofs.Index.{index-within, index-before, index-some}
+use Rattle.store.specs.inner.Store.{lookIn}
+use Rattle.layout.specs.inner.Served.{Served, blockList}
+use Rattle.card.specs.Card.{pointer}
+use Rattle.ctz.specs.inner.Forms.{pointersWith, target, stand}
+use Rattle.card.specs.inner.Cards.{cardWith}
 
 -- the offset that a lookup answers is not looked at
 look-placed : (off : ℕ) (f : Found) → lookOf (placed off f) ≡ lookOf f
@@ -32,20 +35,20 @@ pub look-same : (B N : ℕ) (e : Entry) (img : List ℕ) (p r : ℕ) → indexAt
 unfolding walkTo
 look-same B N e img p r i =
     let top = indexAt B (e .size - 1) in
-    rw (walkTo, i) (ap lookOf (walk-placed (pointer img B) N (offsetAt B r) (offsetAt B p) (suc top) (indexAt B r) top (e .head) 0)
-    ∙ look-placed (offsetAt B p) (walk (suc top) (pointer img B) N (offsetAt B r) (indexAt B r) top (e .head) 0))
+    rw (walkTo, i) (ap lookOf (walk-placed (pointer B img) N (offsetAt B r) (offsetAt B p) (suc top) (indexAt B r) top (e .head) 0)
+    ∙ look-placed (offsetAt B p) (walk (suc top) (pointersWith N (pointer B img)) (target (indexAt B r) (offsetAt B r)) (stand top (e .head) 0)))
 
 -- the block of the last byte is the head, if that is a block
 pub look-head : (B N : ℕ) (e : Entry) (img : List ℕ) (p : ℕ) → p + 1 ≡ e .size → e .head < N → lookIn B N e img p ≡ Look.Found (e .head)
 unfolding walkTo
 look-head B N e img p s h =
     let q : e .size - 1 ≡ p = omega arith in
-    rw (walkTo, q) (ap lookOf (walk-at (indexAt B p) (pointer img B) N (offsetAt B p) (indexAt B p) (indexAt B p) (e .head) 0 h (omega arith)))
+    rw (walkTo, q) (ap lookOf (walk-at (indexAt B p) (pointer B img) N (offsetAt B p) (indexAt B p) (indexAt B p) (e .head) 0 h (omega arith)))
 
 pub look-headless : (B N : ℕ) (e : Entry) (img : List ℕ) (p : ℕ) → N ≤ e .head → lookIn B N e img p ≡ Look.Lost
 unfolding walkTo
 look-headless B N e img p h =
-    ap lookOf (walk-damaged (indexAt B (e .size - 1)) (pointer img B) N (offsetAt B p) (indexAt B p) (indexAt B (e .size - 1)) (e .head) 0 h)
+    ap lookOf (walk-damaged (indexAt B (e .size - 1)) (pointer B img) N (offsetAt B p) (indexAt B p) (indexAt B (e .size - 1)) (e .head) 0 h)
 
 -- the block before the head's is its pointer 0, if that is a block
 module _ {B : ℕ} (N : ℕ) (e : Entry) (img : List ℕ) {q first : ℕ} (h : Served B q) (s : Behind B q first) (z : q ≡ e .size) (b : e .head < N) where
@@ -60,21 +63,21 @@ module _ {B : ℕ} (N : ℕ) (e : Entry) (img : List ℕ) {q first : ℕ} (h : S
   small : suc (indexAt B (first - 1)) < 2 ^ 32
   small = omega (arith, above, index-below (served {p = e .size - 1} (h .sized) (omega (arith, h .word))))
 
-  pub look-next : pointer img B (e .head) 0 < N → lookIn B N e img (first - 1) ≡ Look.Found (pointer img B (e .head) 0)
+  pub look-next : pointer B img (e .head) 0 < N → lookIn B N e img (first - 1) ≡ Look.Found (pointer B img (e .head) 0)
   unfolding walkTo
   look-next l =
-      rw (walkTo, ← above) (ap lookOf (next-at (pointer img B) N (offsetAt B (first - 1)) (indexAt B (first - 1)) (e .head) small b l))
+      rw (walkTo, ← above) (ap lookOf (next-at (pointer B img) N (offsetAt B (first - 1)) (indexAt B (first - 1)) (e .head) small b l))
 
-  pub look-next-lost : N ≤ pointer img B (e .head) 0 → lookIn B N e img (first - 1) ≡ Look.Lost
+  pub look-next-lost : N ≤ pointer B img (e .head) 0 → lookIn B N e img (first - 1) ≡ Look.Lost
   unfolding walkTo
   look-next-lost l =
-      rw (walkTo, ← above) (ap lookOf (next-lost (pointer img B) N (offsetAt B (first - 1)) (indexAt B (first - 1)) (e .head) small b l))
+      rw (walkTo, ← above) (ap lookOf (next-lost (pointer B img) N (offsetAt B (first - 1)) (indexAt B (first - 1)) (e .head) small b l))
 
 -- a block that is found is below N
 pub look-below : {B N : ℕ} {e : Entry} {len : ℕ} (img : List ℕ) (p k : ℕ) → Looking B N e len → p < e .size → lookIn B N e img p ≡ Look.Found k → k < N
-look-below {B} {N} {e} img p k g l f = go (walkTo img B N (e .head) (e .size) p) refl f
+look-below {B} {N} {e} img p k g l f = go (walkTo (cardWith B N img) (blockList (e .head) (e .size)) p) refl f
   where
-    go : (x : Found) → walkTo img B N (e .head) (e .size) p ≡ x → lookOf x ≡ Look.Found k → k < N
+    go : (x : Found) → walkTo (cardWith B N img) (blockList (e .head) (e .size)) p ≡ x → lookOf x ≡ Look.Found k → k < N
     go (found.At j off hops) w f =
         let i : j ≡ k = cc in
         omega (arith, found-tells img (e .head) (record { card = g .card; most = g .most; below = l }) w .below)
@@ -91,24 +94,24 @@ told-lost (Look.Found j) e = let z : _≡_ {A = ℕ} 0 1 = cc in absurd (omega a
 told-lost Look.Lost e = refl
 
 module _ (look : List ℕ → ℕ → Look) (img : List ℕ) where
-  pub looked-more : (p : ℕ) (ps : List ℕ) (k : ℕ) → look img p ≡ Look.Found k → looked look img (p ∷ ps) ≡ looked look img ps
+  pub looked-more : (p : ℕ) (ps : List ℕ) (k : ℕ) → look img p ≡ Look.Found k → looked (look img) (p ∷ ps) ≡ looked (look img) ps
   unfolding looked
   looked-more p ps k e = rw (looked, e)
 
-  pub looked-lost : (p : ℕ) (ps : List ℕ) → look img p ≡ Look.Lost → looked look img (p ∷ ps) ≡ false
+  pub looked-lost : (p : ℕ) (ps : List ℕ) → look img p ≡ Look.Lost → looked (look img) (p ∷ ps) ≡ false
   unfolding looked
   looked-lost p ps e = rw (looked, e)
 
-  pub looked-none : looked look img [] ≡ true
+  pub looked-none : looked (look img) [] ≡ true
   unfolding looked
   looked-none = refl
 
-  pub looked-append : (ps qs : List ℕ) → looked look img (ps ++ qs) ≡ (looked look img ps && looked look img qs)
+  pub looked-append : (ps qs : List ℕ) → looked (look img) (ps ++ qs) ≡ (looked (look img) ps && looked (look img) qs)
   unfolding looked
   looked-append [] qs = refl
   looked-append (p ∷ ps) qs = go (look img p) refl (looked-append ps qs)
     where
-      go : (x : Look) → look img p ≡ x → looked look img (ps ++ qs) ≡ (looked look img ps && looked look img qs)
-          → looked look img (p ∷ (ps ++ qs)) ≡ (looked look img (p ∷ ps) && looked look img qs)
+      go : (x : Look) → look img p ≡ x → looked (look img) (ps ++ qs) ≡ (looked (look img) ps && looked (look img) qs)
+          → looked (look img) (p ∷ (ps ++ qs)) ≡ (looked (look img) (p ∷ ps) && looked (look img) qs)
       go (Look.Found k) e ih = rw (looked-more p (ps ++ qs) k e, looked-more p ps k e) ih
       go Look.Lost e ih = rw (looked-lost p (ps ++ qs) e, looked-lost p ps e) refl

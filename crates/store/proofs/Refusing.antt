@@ -5,29 +5,28 @@ use mathlib.Core.List.{List, [], _∷_, _++_}
 use Prim.Native.Nat.{ℕ}
 use lib.Count.{trailingZeros, leadingZeros}
 use lib.ListN.{replicate}
+use Rattle.grow.specs.Setting.{testedOf}
 use Rattle.span.specs.Words.{bytes32, wordAt}
 use Rattle.layout.specs.Layout.{pointers, capacity, start, indexAt, offsetAt}
-use Rattle.card.specs.Blocks.{pointer}
-use Rattle.card.specs.Card.{goodCard}
+use Rattle.card.specs.Card.{goodCard, pointer}
 use Rattle.ctz.specs.Lookup.{walk, walkTo}
-use Rattle.ctz.specs.Visits.{visit, visitOf}
+use Rattle.ctz.specs.Visits.{visitOf, visit, hand}
 use Rattle.device.specs.Device.{stored, wiped}
 use Rattle.device.specs.Health.{eachValid, healthOk}
 use Rattle.files.specs.declared.Table.{Table}
-use Rattle.files.specs.Find.{searchOf, findOf}
-use Rattle.files.specs.Table.{headOk, entryOk, filesOk, tableOf, tableOk}
+use Rattle.files.specs.Table.{searchOf, findOf, headOk, entryOk, filesOk, tableOf, tableOk}
 use Rattle.window.specs.declared.Lookahead.{Lookahead}
-use Rattle.window.specs.Allocate.{allocBy, allocOf}
-use Rattle.window.specs.Marks.{markAll, markMap}
-use Rattle.window.specs.Scan.{cleared, scanOf, seenAll}
-use Rattle.window.specs.Search.{freeFrom, skip, takeOf}
+use Rattle.window.specs.Allocate.{allocBy, allocOf, skip, takeOf}
+use Rattle.window.specs.Scan.{markAll, markMap, cleared, scanOf, seenAll}
 use Rattle.window.specs.Value.{lookaheadFits, validOf}
 use Rattle.alloc.specs.Visits.{seenIn}
-use Rattle.grow.specs.Extend.{windowAlloc}
-use Rattle.grow.specs.Grow.{part, pointersOf, linkOf, spoils, growOf}
+use Rattle.trials.specs.Steps.{done, series, programs}
+use Rattle.trials.specs.Trial.{takenBy}
+use Rattle.trials.specs.Loop.{tried, followed, turnOf, writeBy}
+use Rattle.grow.specs.Growth.{links, growth}
 use Rattle.store.specs.declared.Outcome.the-variants as outcome
-use Rattle.store.specs.Write.{fronted, filledOf, grownOf, writeOf, starts, wanted, looked, firstHead, putOf}
-use Rattle.store.specs.Store.{StoreOut, left, puts, storeWrite, writeFile}
+use Rattle.store.specs.Write.{ahead, then, tail, trialOf, starts, wanted, looked, firstHead}
+use Rattle.store.specs.Store.{StoreOut, left, putOn, atFile, writeAt, storeWrite}
 
 -- The file is 372 bytes of 7 in blocks 0, 1 and 2, all three full. Pointer 1 of block 2 should name block 0 and names p. Blocks 3, 4 and 5 are given.
 abbrev card : ℕ → List ℕ → List ℕ → List ℕ → List ℕ
@@ -55,7 +54,9 @@ window byte start next size count =
 
 -- n bytes of 5 go to that position of the file
 writes : ℕ → List ℕ → Lookahead → ℕ → ℕ → StoreOut
-writes p health w pos n = storeWrite 128 6 8 (card p spare spare spare) health w (files 372 2) 3 pos (replicate n 5)
+writes p health w pos n =
+    storeWrite (record { B = 128; N = 6; L = 8; health = health }) (record { window = w; table = files 372 2; image = card p spare spare spare })
+    (record { number = 3; position = pos; bytes = replicate n 5 })
 
 abbrev good : List ℕ
 good = replicate 6 0
@@ -79,5 +80,5 @@ refused : (writes 0 good (window 7 0 3 6 3) 372 125
     × (writes 77 good (window 7 0 3 6 3) 0 1 ≡ left outcome.Damaged (window 7 0 3 6 6) (files 372 2) (card 77 spare spare spare))
     × (writes 0 (0 ∷ 0 ∷ 0 ∷ 0 ∷ 1 ∷ 2 ∷ []) (window 7 0 3 6 3) 372 125
     ≡ left outcome.Full (window 7 0 3 3 0) (files 372 2) (card 0 filled spare (replicate 128 255)))
-unfolding writes storeWrite writeFile puts putOf wanted starts looked firstHead writeOf grownOf filledOf fronted growOf spoils linkOf pointersOf part wiped stored windowAlloc allocOf allocBy takeOf freeFrom skip scanOf cleared markAll markMap seenIn seenAll visitOf visit goodCard healthOk eachValid lookaheadFits validOf findOf searchOf tableOk filesOk entryOk headOk walkTo walk pointer wordAt bytes32 pointers capacity start indexAt offsetAt trailingZeros leadingZeros
+unfolding writes storeWrite atFile testedOf writeAt putOn wanted starts looked firstHead writeBy followed turnOf tried takenBy trialOf then growth links tail ahead series done programs wiped stored allocOf allocBy takeOf skip scanOf cleared markAll markMap seenIn seenAll visitOf visit hand goodCard healthOk eachValid lookaheadFits validOf findOf searchOf tableOk filesOk entryOk headOk walkTo walk pointer wordAt bytes32 pointers capacity start indexAt offsetAt trailingZeros leadingZeros
 refused = (refl, refl, refl, refl, refl, refl)

@@ -5,19 +5,18 @@ use mathlib.Core.List.{List, [], _∷_, _++_}
 use Prim.Native.Nat.{ℕ}
 use lib.Count.{trailingZeros, leadingZeros}
 use lib.ListN.{replicate}
+use Rattle.grow.specs.Setting.{testedOf}
 use Rattle.span.specs.Words.{wordAt}
 use Rattle.layout.specs.Layout.{pointers, capacity, start, indexAt, offsetAt}
-use Rattle.card.specs.Blocks.{pointer}
-use Rattle.card.specs.Card.{goodCard}
+use Rattle.card.specs.Card.{goodCard, pointer}
 use Rattle.ctz.specs.Lookup.{walk, walkTo}
 use Rattle.device.specs.Health.{eachValid, healthOk}
 use Rattle.files.specs.declared.Table.{Table}
-use Rattle.files.specs.Find.{searchOf, findOf}
-use Rattle.files.specs.Table.{headOk, entryOk, filesOk, tableOf, tableOk}
+use Rattle.files.specs.Table.{searchOf, findOf, headOk, entryOk, filesOk, tableOf, tableOk}
 use Rattle.window.specs.declared.Lookahead.{Lookahead}
 use Rattle.window.specs.Value.{lookaheadFits, validOf}
 use Rattle.store.specs.declared.Outcome.the-variants as outcome
-use Rattle.store.specs.Store.{StoreOut, left, shrinks, storeTruncate, truncateFile}
+use Rattle.store.specs.Store.{StoreOut, left, atFile, cutDown, truncateAt, storeTruncate}
 use Rattle.layout.specs.Numbers.{nullBlock}
 
 -- The file is 260 bytes in blocks 2, 0 and 1: 128 of 7; 124 of 8 behind a pointer; 8 of 9 behind two. The first of those should name block 0 and names p.
@@ -35,7 +34,9 @@ abbrev window : Lookahead
 window = record { map = 5 ∷ replicate 63 0; start = 1; next = 1; size = 2; ckpoint = 2 }
 
 truncates : ℕ → ℕ → StoreOut
-truncates p size = storeTruncate 128 3 8 (card p) (0 ∷ 0 ∷ 0 ∷ []) window (files 260 1) 3 size
+truncates p size =
+    storeTruncate (record { B = 128; N = 3; L = 8; health = 0 ∷ 0 ∷ 0 ∷ [] }) (record { window = window; table = files 260 1; image = card p })
+    (record { number = 3; size = size })
 
 -- done, with that size and head; card and window are as they came
 abbrev keeps : ℕ → ℕ → StoreOut
@@ -47,10 +48,10 @@ shrank : (truncates 0 260 ≡ keeps 260 1) × (truncates 0 259 ≡ keeps 259 1) 
     × (truncates 0 252 ≡ keeps 252 0) × (truncates 0 251 ≡ keeps 251 0) × (truncates 0 129 ≡ keeps 129 0)
     × (truncates 0 128 ≡ keeps 128 2) × (truncates 0 127 ≡ keeps 127 2) × (truncates 0 1 ≡ keeps 1 2)
     × (truncates 0 0 ≡ keeps 0 nullBlock)
-unfolding truncates storeTruncate truncateFile shrinks goodCard healthOk eachValid lookaheadFits validOf findOf searchOf tableOk filesOk entryOk headOk walkTo walk pointer wordAt pointers capacity start indexAt offsetAt trailingZeros leadingZeros
+unfolding truncates storeTruncate atFile testedOf truncateAt cutDown goodCard healthOk eachValid lookaheadFits validOf findOf searchOf tableOk filesOk entryOk headOk walkTo walk pointer wordAt pointers capacity start indexAt offsetAt trailingZeros leadingZeros
 shrank = (refl, refl, refl, refl, refl, refl, refl, refl, refl, refl)
 
 -- Where the pointer names no block of the card: -84 if it would become the head, and all is as it came.
 lost : truncates 77 252 ≡ left outcome.Damaged window (files 260 1) (card 77)
-unfolding truncates storeTruncate truncateFile shrinks goodCard healthOk eachValid lookaheadFits validOf findOf searchOf tableOk filesOk entryOk headOk walkTo walk pointer wordAt pointers capacity start indexAt offsetAt trailingZeros leadingZeros
+unfolding truncates storeTruncate atFile testedOf truncateAt cutDown goodCard healthOk eachValid lookaheadFits validOf findOf searchOf tableOk filesOk entryOk headOk walkTo walk pointer wordAt pointers capacity start indexAt offsetAt trailingZeros leadingZeros
 lost = refl

@@ -6,22 +6,23 @@ use native.Mathlib.Omega.{arith}
 use borrow.Author.Tests.{lt-ltb, le-ltb}
 use lib.ListN.{length, take, drop}
 use Rattle.device.specs.declared.Programmed.{Programmed}
-use Rattle.device.specs.Bounds.{Room, Source, Blank}
-use Rattle.device.specs.Device.{ProgramOut, programOf, ProgramGives}
 use Rattle.device.proofs.Steps.{program-stored}
 use Rattle.files.specs.declared.Entry.{Entry}
-use Rattle.grow.specs.Grow.{part}
-use Rattle.grow.specs.Attempt.{Linking}
+use Rattle.grow.specs.inner.Attempt.{Linking}
 use Rattle.grow.proofs.Rooms.{room-of, source-of}
 use Rattle.store.specs.declared.block.Filled.the-variants.{Done, Damaged}
 use Rattle.store.specs.declared.old.Looked.{Looked}
 use Rattle.store.specs.declared.old.Looked.the-variants as looked-as
-use Rattle.store.specs.Write.{Look, tailed}
-use Rattle.store.specs.Store.{lookIn}
-use Rattle.store.specs.Lookups.{lookedOf, Looking}
-use Rattle.store.specs.Fill.{tailOf, FillGives, Tailing}
+use Rattle.store.specs.Write.{Look}
+use Rattle.store.specs.inner.Lookups.{lookedOf, Looking}
+use Rattle.store.specs.inner.Fill.{tailOf, FillGives, Tailing}
 use Rattle.store.proofs.Looks.{told-block, told-lost, look-below}
 use Rattle.store.proofs.Fills.{filled}
+use Rattle.grow.specs.inner.Grow.{part}
+use Rattle.store.specs.inner.Write.{tailed}
+use Rattle.store.specs.inner.Store.{lookIn}
+use Rattle.device.specs.inner.Steps.{ProgramOut, programOf, ProgramGives}
+use Rattle.device.specs.inner.Bounds.{RoomIn, CopyFrom, Blank}
 
 -- `at` is how far the front goes, `r` what the lookup behind it answers
 module _ {B N : ℕ} {e : Entry} {k off s m past : ℕ} {image health : List ℕ} (f : Tailing B N e k off s m past image health) (at : ℕ) (ea : at ≡ past - s) where
@@ -46,7 +47,7 @@ module _ {B N : ℕ} {e : Entry} {k off s m past : ℕ} {image health : List ℕ
         found = told-block (lookIn B N e image (s + at)) ob (sym er ∙ x)
 
         -- both runs lie in their blocks, and the new one is erased
-        pub tail-asks : Room B k (off + at) (m - at) image health × Source B k (off + at) ob (off + at) (m - at) image × Blank B k (off + at) (m - at) image
+        pub tail-asks : RoomIn B k (off + at) (m - at) image health × CopyFrom B k (off + at) ob (off + at) (m - at) image × Blank B k (off + at) (m - at) image
         tail-asks =
             let link : Linking B N k image health = record { card = f .card; known = f .known; block = f .block } in
             let room : off + at + (m - at) ≤ B = omega (arith, f .fits) in

@@ -11,52 +11,55 @@ use Rattle.device.specs.Health.{healthOk}
 use Rattle.device.proofs.Health.{healthy}
 use Rattle.files.specs.declared.Table.{Table}
 use Rattle.files.specs.declared.Found.the-variants as place
-use Rattle.files.specs.Table.{file}
-use Rattle.files.specs.Find.{findOf}
+use Rattle.files.specs.Table.{file, findOf}
 use Rattle.files.proofs.Laws.{table-valid, count-ok}
 use Rattle.files.proofs.Cases.{found-at}
 use Rattle.window.specs.declared.Lookahead.{Lookahead}
 use Rattle.window.specs.Value.{lookaheadFits, validOf}
 use Rattle.alloc.proofs.Tested.{ready}
-use Rattle.store.specs.Put.{Putting}
-use Rattle.store.specs.Calls.{testedOf, Shrinking, Asked}
+use Rattle.store.specs.inner.Put.{Putting}
+use Rattle.store.specs.inner.Calls.{Shrinking, Asked}
 use Rattle.layout.specs.Numbers.{filesMax, sizeMax}
+use Rattle.layout.specs.inner.Served.{geometry}
+use Rattle.window.specs.inner.Facts.{scope}
+use Rattle.grow.specs.inner.Setting.{setting}
+use Rattle.grow.specs.Setting.{testedOf}
 
 module _ (B N l len : ℕ) (health : List ℕ) (w : Lookahead) where
-  pub no-card : goodCard B N len ≡ false → false ≡ testedOf B N l len health w
+  pub no-card : goodCard (geometry B N) len ≡ false → false ≡ testedOf (setting B N l health) w len
   unfolding testedOf
   no-card e = rw (testedOf, e)
 
-  module _ (a : goodCard B N len ≡ true) where
-    pub no-health : healthOk health N ≡ false → false ≡ testedOf B N l len health w
+  module _ (a : goodCard (geometry B N) len ≡ true) where
+    pub no-health : healthOk health N ≡ false → false ≡ testedOf (setting B N l health) w len
     unfolding testedOf
     no-health e = rw (testedOf, a, e)
 
     module _ (b : healthOk health N ≡ true) where
-      pub no-lookahead : lookaheadFits l ≡ false → false ≡ testedOf B N l len health w
+      pub no-lookahead : lookaheadFits l ≡ false → false ≡ testedOf (setting B N l health) w len
       unfolding testedOf
       no-lookahead e = rw (testedOf, a, b, e)
 
-      pub last-test : {r : Bool} → lookaheadFits l ≡ true → r ≡ validOf w N l → r ≡ testedOf B N l len health w
+      pub last-test : {r : Bool} → lookaheadFits l ≡ true → r ≡ validOf (scope N l) w → r ≡ testedOf (setting B N l health) w len
       unfolding testedOf
       last-test c e = rw (testedOf, a, b, c) e
 
 -- behind the tests
 pub record Tests (B N l : ℕ) (image health : List ℕ) (w : Lookahead) : Type 0 where
-  pub card : goodCard B N (length image) ≡ true
+  pub card : goodCard (geometry B N) (length image) ≡ true
   pub healths : healthOk health N ≡ true
   pub lookahead : lookaheadFits l ≡ true
-  pub window : validOf w N l ≡ true
+  pub window : validOf (scope N l) w ≡ true
 
-pub tests : (B N l : ℕ) (image health : List ℕ) (w : Lookahead) → testedOf B N l (length image) health w ≡ true → Tests B N l image health w
+pub tests : (B N l : ℕ) (image health : List ℕ) (w : Lookahead) → testedOf (setting B N l health) w (length image) ≡ true → Tests B N l image health w
 unfolding testedOf
 tests B N l image health w e =
-    let c = and-eq-true-iff _ (validOf w N l) .0 e in
+    let c = and-eq-true-iff _ (validOf (scope N l) w) .0 e in
     let b = and-eq-true-iff _ (lookaheadFits l) .0 (c .0) in
     let a = and-eq-true-iff _ (healthOk health N) .0 (b .0) in
     record { card = a .0; healths = a .1; lookahead = b .1; window = c .1 }
 
-module _ (B N l : ℕ) (image health : List ℕ) (w : Lookahead) (t : Table) (number i : ℕ) (e : testedOf B N l (length image) health w ≡ true)
+module _ (B N l : ℕ) (image health : List ℕ) (w : Lookahead) (t : Table) (number i : ℕ) (e : testedOf (setting B N l health) w (length image) ≡ true)
     (f : findOf t number ≡ place.At i) where
   pub slot : i < filesMax
   slot = omega (arith, found-at t number i f .below, count-ok t (found-at t number i f .ok))

@@ -7,12 +7,13 @@ use borrow.Author.Tests.{lt-ltb, le-ltb}
 use lib.Dec.{ltb}
 use Rattle.device.specs.Device.{refusesProgram}
 use Rattle.grow.specs.declared.Growth.the-variants as growth
-use Rattle.grow.specs.Supply.{Took}
-use Rattle.grow.specs.Grow.{growOf}
 use Rattle.store.specs.declared.block.Filled.the-variants.{Done, Spoiled, Damaged}
-use Rattle.store.specs.Write.{Job, new, over, Look, Written, NoRoom, Corrupt, WriteOut, write-out, fronted, filledOf, grownOf, writeOf}
-use Rattle.store.specs.Fill.{FillOut, share, tailOf, fillOf}
+use Rattle.store.specs.Write.{Job, new, over, Look}
+use Rattle.store.specs.inner.Fill.{FillOut, share, tailOf, fillOf}
 use Rattle.store.proofs.Fills.{fill-refused, fill-goes}
+use Rattle.trials.specs.Loop.{Took, Written, NoRoom, Corrupt, WriteOut, write-out}
+use Rattle.grow.specs.inner.Grow.{growOf}
+use Rattle.store.specs.inner.Write.{fronted, filledOf, grownOf, writeOf}
 
 -- what follows the filling of a block: the size so far, another block, or -84
 abbrev pub onFill : {W : Type 0} → FillOut → (ℕ → List ℕ → WriteOut W) → (List ℕ → WriteOut W) → W → WriteOut W

@@ -2,7 +2,4 @@
 pub mod Asked
 pub mod Write
 pub mod Store
-pub mod Lookups
-pub mod Fill
-pub mod Put
-pub mod Calls
+pub mod inner

@@ -1,33 +1,18 @@
--- A write of at least one byte, by growths, each new block filled before the next growth (01, "Store calls"); over any allocator and lookup.
+-- A write of at least one byte (01, "Store calls"): what goes into its blocks, and where it looks before it allocates. Over any lookup in the old list.
 use mathlib.Core.Bool.{Bool, true, false}
 use mathlib.Core.List.{List, [], _∷_, _++_}
 use Prim.Native.Nat.{ℕ, zero, suc, _+_, _-_, min, max}
 use lib.Dec.{ltb}
 use lib.ListN.{length, replicate, take, drop}
 use Rattle.layout.specs.Numbers.{nullBlock}
-use Rattle.layout.specs.Layout.{indexAt, start}
-use Rattle.device.specs.Device.{stored, refusesProgram}
-use Rattle.grow.specs.declared.Growth.the-variants as growth
-use Rattle.grow.specs.Supply.{Took}
-use Rattle.grow.specs.Grow.{GrowOut, part, growOf}
+use Rattle.layout.specs.Layout.{BlockSize, Index, Position, indexAt, offsetAt, start}
+use Rattle.trials.specs.Trial.{Trial, Whole, Fault, Refused, ends, whole, more}
+use Rattle.trials.specs.Loop.{Place, Plan}
+use Rattle.grow.specs.Growth.{offset, with, growth}
+use Rattle.card.specs.Card.{blockOf}
 
 abbrev pub zeros : ℕ → List ℕ
 zeros n = replicate n 0
-
--- the written list's head and size; -28; -84
-pub data Writing : Type 0 where
-  Written : ℕ → ℕ → Writing
-  NoRoom : Writing
-  Corrupt : Writing
-
--- what a write leaves: its answer, the image, and the allocator
-pub record WriteOut (W : Type 0) : Type 0 where
-  pub answer : Writing
-  pub image : List ℕ
-  pub rest : W
-
-abbrev pub write-out : {W : Type 0} → Writing → List ℕ → W → WriteOut W
-write-out a img w = record { answer = a; image = img; rest = w }
 
 -- the old list, and what is written where
 pub record Job : Type 0 where
@@ -46,63 +31,54 @@ new j = max (j .old) (over j)
 abbrev pub kept : Job → ℕ
 kept j = min (j .pos) (j .old)
 
--- Block k holds the file up to position s, at offset off; n more positions go into it. First the gap's zeros, then the data:
-unfoldable pub fronted : ℕ → ℕ → ℕ → ℕ → ℕ → ℕ → List ℕ → List ℕ → List ℕ
-fronted B k off s n pos src img =
-    stored B k (off + min (pos - s) n) (take (n - min (pos - s) n) (drop (s - pos) src)) (stored B k off (zeros (min (pos - s) n)) img)
-
--- then the tail of the old file, from position e on: it stands in the old block ob of the same index, at the same offsets
-unfoldable pub tailed : ℕ → ℕ → ℕ → ℕ → ℕ → ℕ → ℕ → List ℕ → List ℕ
-tailed B k off s n ob e img = stored B k (off + (e - s)) (part B ob (off + (e - s)) (n - (e - s)) img) img
-
 -- what a lookup of a position of the old list finds, or -84
 pub data Look : Type 0 where
   Found : ℕ → Look
   Lost : Look
 
--- What follows the front of a block: where tail is due its old block is looked up, on the image as it then stands; -84 where it is not found.
-unfoldable pub filledOf : {W : Type 0} → (List ℕ → ℕ → Look) → ℕ → Job → ℕ → ℕ → ℕ → ℕ → List ℕ → W → (List ℕ → WriteOut W) → WriteOut W
-filledOf look B j k off s n img w go =
-    elim (ltb (over j - s) n) [
-      | false ↦ go img
-      | true ↦ elim (look img (s + (over j - s))) [
-        | Lost ↦ write-out Corrupt img w
-        | Found ob ↦ go (tailed B k off s n ob (over j) img)
+-- ---- what goes into a block
+
+-- The file from position s to the end of the written bytes: the gap's zeros, then data. Where s lies behind pos `-` stops at 0 and there is no gap.
+unfoldable pub ahead : Job → ℕ → List ℕ
+ahead j s = zeros (j .pos - s) ++ drop (s - j .pos) (j .src)
+
+-- so many positions are ahead: none where s lies behind the written bytes
+abbrev pub lead : Job → ℕ → ℕ
+lead j s = over j - s
+
+-- so many positions from s on go into a block: those that are left, or those that it has room for
+abbrev pub width : BlockSize → Job → ℕ → ℕ
+width B j s = min (new j - s) (B - offsetAt B s)
+
+-- the bytes of t, and those that follow on the image with them
+unfoldable pub then : Place → List ℕ → Trial → (List ℕ → Trial) → Trial
+then q img t go = elim (t .ending) [ Whole ↦ more (t .bytes) (go (with q img 0 (t .bytes))) | Fault ↦ t | Refused ↦ t ]
+
+-- Where bytes of the old file follow the data, they stand in its block of the same index, at the same offsets; that block is looked up only then.
+unfoldable pub tail : (List ℕ → ℕ → Look) → Job → Place → List ℕ → Trial
+tail look j q img =
+    let a : ℕ = lead j (q .size) in
+    let n : ℕ = width (q .B) j (q .size) in
+    elim (ltb a n) [
+      | false ↦ whole []
+      | true ↦ elim (look img (q .size + a)) [
+        | Lost ↦ ends Fault
+        | Found b ↦ whole (take (n - a) (drop (offset q + a) (blockOf (q .B) img b)))
       ]
     ]
 
--- what follows a growth
-unfoldable pub grownOf : {W : Type 0} → GrowOut W → (ℕ → ℕ → WriteOut W) → WriteOut W
-grownOf o go =
-    elim (o .answer) [
-      | growth.Grown k off ↦ go k off
-      | growth.Full ↦ write-out NoRoom (o .image) (o .rest)
-      | growth.Damaged ↦ write-out Corrupt (o .image) (o .rest)
-      | growth.Refused ↦ write-out Corrupt (o .image) (o .rest)
-    ]
+-- the growth; gap and data; the tail
+unfoldable pub trialOf : (List ℕ → ℕ → Look) → Job → Place → List ℕ → Trial
+trialOf look j q img =
+    then q img (then q img (growth q img) (λ i. whole (take (width (q .B) j (q .size)) (ahead j (q .size))))) (λ i. tail look j q i)
 
--- From the list (h, s) on, until the new size is reached. A program refused after a growth from size 0 moves on to another block.
--- m bounds the growths: one for each block that may be handed out is enough.
-unfoldable pub writeOf : {W : Type 0} → (List ℕ → ℕ → Look) → (W → ℕ) → (W → List ℕ → Took W) → ℕ → List ℕ → ℕ → ℕ → Job → W → ℕ → ℕ → List ℕ → WriteOut W
-writeOf look tries alloc zero health B N j w h s img = write-out NoRoom img w
-writeOf look tries alloc (suc m) health B N j w h s img =
-    elim (ltb s (new j)) [
-      | false ↦ write-out (Written h s) img w
-      | true ↦ grownOf (growOf alloc (suc (tries w)) w health B N h s img) (λ k off.
-          elim (refusesProgram health k) [
-            | true ↦
-                writeOf look tries alloc m health B N j (growOf alloc (suc (tries w)) w health B N h s img .rest) h s
-                (growOf alloc (suc (tries w)) w health B N h s img .image)
-            | false ↦
-                filledOf look B j k off s (min (new j - s) (B - off))
-                (fronted B k off s (min (new j - s) (B - off)) (j .pos) (j .src) (growOf alloc (suc (tries w)) w health B N h s img .image))
-                (growOf alloc (suc (tries w)) w health B N h s img .rest)
-                (λ img′. writeOf look tries alloc m health B N j (growOf alloc (suc (tries w)) w health B N h s img .rest) k (s + min (new j - s) (B - off)) img′)
-          ])
-    ]
+abbrev pub planOf : (List ℕ → ℕ → Look) → ℕ → Job → Plan
+planOf look B j = record { until = new j; trial = trialOf look j; reach = λ s. s + width B j s }
+
+-- ---- the lookups
 
 -- the first positions of n blocks from index i on
-unfoldable pub starts : ℕ → ℕ → ℕ → List ℕ
+unfoldable pub starts : BlockSize → Index → ℕ → List Position
 starts B i zero = []
 starts B i (suc n) = start B i ∷ starts B (suc i) n
 
@@ -111,29 +87,24 @@ when true ps = ps
 when false ps = []
 
 -- Where a write looks before it allocates: the last kept block, then each old block whose bytes it copies, index rising.
-unfoldable pub wanted : ℕ → Job → List ℕ
+unfoldable pub wanted : BlockSize → Job → List ℕ
 wanted B j =
-    when (ltb 0 (indexAt B (kept j))) (start B (indexAt B (kept j) - 1) ∷ [])
-    ++ (when (ltb (start B (indexAt B (kept j))) (kept j)) (start B (indexAt B (kept j)) ∷ [])
-    ++ when (ltb (over j) (j .old)) (starts B (indexAt B (over j)) (indexAt B (j .old - 1) - indexAt B (over j) + 1)))
+    let i : ℕ = indexAt B (kept j) in
+    let o : ℕ = indexAt B (over j) in
+    when (ltb 0 i) (start B (i - 1) ∷ [])
+    ++ (when (ltb (start B i) (kept j)) (start B i ∷ [])
+    ++ when (ltb (over j) (j .old)) (starts B o (indexAt B (j .old - 1) - o + 1)))
 
-unfoldable pub looked : (List ℕ → ℕ → Look) → List ℕ → List ℕ → Bool
-looked look img [] = true
-looked look img (p ∷ ps) = elim (look img p) [ Found k ↦ looked look img ps | Lost ↦ false ]
+-- each of these positions is found
+unfoldable pub looked : (ℕ → Look) → List ℕ → Bool
+looked look [] = true
+looked look (p ∷ ps) = elim (look p) [ Found k ↦ looked look ps | Lost ↦ false ]
 
 abbrev pub foundOr : Look → ℕ
 foundOr (Found k) = k
 foundOr Lost = nullBlock
 
 -- the first growth is from the block of byte q - 1, or from size 0
-unfoldable pub firstHead : (List ℕ → ℕ → Look) → List ℕ → ℕ → ℕ
-firstHead look img zero = nullBlock
-firstHead look img (suc p) = foundOr (look img p)
-
--- the whole write, behind its checkpoint
-unfoldable pub putOf : {W : Type 0} → (List ℕ → ℕ → Look) → (W → ℕ) → (W → List ℕ → Took W) → List ℕ → ℕ → ℕ → Job → W → List ℕ → WriteOut W
-putOf look tries alloc health B N j w img =
-    elim (looked look img (wanted B j)) [
-      | false ↦ write-out Corrupt img w
-      | true ↦ writeOf look tries alloc (suc (tries w)) health B N j w (firstHead look img (kept j)) (kept j) img
-    ]
+unfoldable pub firstHead : (ℕ → Look) → ℕ → ℕ
+firstHead look zero = nullBlock
+firstHead look (suc p) = foundOr (look p)

@@ -7,11 +7,12 @@ use device::Programmed;
 use files::Entry;
 ghost use Prim.Native.Nat.{_≤_};
 ghost use lib.ListN.{length};
-ghost use Rattle.device.specs.Device.{ProgramGives};
-ghost use Rattle.device.specs.Bounds.{Room, Blank};
-ghost use Rattle.store.specs.Store.{lookIn, jobOf};
-ghost use Rattle.store.specs.Fill.{frontOf, tailOf, fillOf, FillGives, Tailing, Filling};
+ghost use Rattle.store.specs.Store.{jobOf};
+ghost use Rattle.store.specs.inner.Fill.{frontOf, tailOf, fillOf, FillGives, Tailing, Filling};
 ghost use Rattle.layout.specs.Numbers.{sizeMax};
+ghost use Rattle.store.specs.inner.Store.{lookIn};
+ghost use Rattle.device.specs.inner.Steps.{ProgramGives};
+ghost use Rattle.device.specs.inner.Bounds.{RoomIn, Blank};
 
 // What filling a new block gives: the size so far, that the block refused, or -84.
 pub enum Filled {
@@ -32,7 +33,7 @@ fn front(
     pos: u32,
     data: &[u8],
 ) -> Programmed
-    requires { ⌜ Room b k off m (now image) (now health) × (length (now «data») ≤ sizeMax) × Blank b k off m (now image) ⌝ }
+    requires { ⌜ RoomIn b k off m (now image) (now health) × (length (now «data») ≤ sizeMax) × Blank b k off m (now image) ⌝ }
     ensures { λ r. ⌜ ProgramGives
         (frontOf (now (health .entry)) b k off s m pos (now («data» .entry)) (now (image .entry)))
         r (now (image .exit)) ⌝ }

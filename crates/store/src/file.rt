@@ -8,8 +8,9 @@ use super::steps::shrink;
 use files::Table;
 use layout::Geometry;
 use window::Lookahead;
-ghost use Rattle.store.specs.Store.{writeFile, truncateFile};
-ghost use Rattle.store.specs.Calls.{StoreGives, Asked};
+ghost use Rattle.store.specs.inner.Calls.{Asked};
+ghost use Rattle.store.specs.inner.Store.{writeFile, truncateFile};
+ghost use Rattle.store.specs.inner.Gives.{StoreGives};
 
 // `data` written to the file at place `i` from position `pos` on; no bytes change nothing.
 pub fn write_file(

@@ -11,8 +11,8 @@ use files::Table;
 use grow::Growth;
 use window::Lookahead;
 ghost use mathlib.Core.Path.{_≡_};
-ghost use Rattle.store.specs.Store.{puts};
-ghost use Rattle.store.specs.Put.{endedOf, onFrom, WroteGives, Putting};
+ghost use Rattle.store.specs.inner.Put.{endedOf, onFrom, WroteGives, Putting};
+ghost use Rattle.store.specs.inner.Store.{puts};
 
 // What a write gives, before the table changes.
 pub enum Writing {

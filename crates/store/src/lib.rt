@@ -14,7 +14,7 @@ use steps::left;
 use steps::valid_store;
 use window::Lookahead;
 ghost use Rattle.store.specs.Store.{storeWrite, storeTruncate};
-ghost use Rattle.store.specs.Calls.{StoreGives};
+ghost use Rattle.store.specs.inner.Gives.{StoreGives};
 
 // What a write or truncate answers.
 pub enum Outcome {
@@ -51,7 +51,10 @@ pub fn write(
     data: &[u8],
 ) -> Stored
     ensures { λ r. ⌜ StoreGives
-        (storeWrite (g .«block_size») (g .«block_count») l (now (image .entry)) (now (health .entry)) w t number pos (now («data» .entry)))
+        (storeWrite
+        (record { B = g .«block_size»; N = g .«block_count»; L = l; health = now (health .entry) })
+        (record { window = w; table = t; image = now (image .entry) })
+        (record { number = number; position = pos; bytes = now («data» .entry) }))
         r (now (image .exit)) ⌝ }
 {
     if !valid_store(g, l, image.len(), health, w) {
@@ -88,7 +91,10 @@ pub fn truncate(
     size: u32,
 ) -> Stored
     ensures { λ r. ⌜ StoreGives
-        (storeTruncate (g .«block_size») (g .«block_count») l (now (image .entry)) (now (health .entry)) w t number size)
+        (storeTruncate
+        (record { B = g .«block_size»; N = g .«block_count»; L = l; health = now (health .entry) })
+        (record { window = w; table = t; image = now (image .entry) })
+        (record { number = number; size = size }))
         r (now (image .exit)) ⌝ }
 {
     if !valid_store(g, l, image.len(), health, w) {

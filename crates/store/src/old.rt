@@ -5,11 +5,11 @@ ghost use mathlib.Core.Path.{_≡_};
 ghost use Prim.Native.Nat.{_-_, _≤_, _<_};
 ghost use lib.ListN.{length};
 ghost use Rattle.layout.specs.Layout.{indexAt, start};
-ghost use Rattle.layout.specs.Place.{Served};
 ghost use Rattle.store.specs.Write.{looked};
-ghost use Rattle.store.specs.Store.{lookIn};
-ghost use Rattle.store.specs.Lookups.{lookedOf, keptOf, tailWanted, Looking, Behind};
+ghost use Rattle.store.specs.inner.Lookups.{lookedOf, keptOf, tailWanted, Looking, Behind};
 ghost use Rattle.layout.specs.Numbers.{sizeMax};
+ghost use Rattle.store.specs.inner.Store.{lookIn};
+ghost use Rattle.layout.specs.inner.Served.{Served};
 
 // What a lookup in a file's list finds; lost: -84.
 pub enum Looked {
@@ -93,7 +93,7 @@ pub fn first_head(b: u32, n: u32, image: &[u8], e: Entry, q: u32) -> Looked
 // Whether each block of a file from position `from` to its end is found.
 pub fn tail_looked(b: u32, n: u32, image: &[u8], e: Entry, from: u32) -> bool
     requires { ⌜ Looking b n e (length (now image)) × (from ≤ sizeMax) ⌝ }
-    ensures { λ r. ⌜ r ≡ looked (lookIn b n e) (now (image .entry)) (tailWanted b from (e .size)) ⌝ }
+    ensures { λ r. ⌜ r ≡ looked ((lookIn b n e) (now (image .entry))) (tailWanted b from (e .size)) ⌝ }
 {
     let size = e.size;
     let mut p = from;

@@ -9,14 +9,17 @@ use window::Lookahead;
 ghost use mathlib.Core.Path.{_≡_};
 ghost use Prim.Native.Nat.{_<_};
 ghost use lib.ListN.{length};
-ghost use Rattle.store.specs.Store.{stays, shrinks};
-ghost use Rattle.store.specs.Put.{finishOf};
-ghost use Rattle.store.specs.Calls.{testedOf, Shrinking};
+ghost use Rattle.store.specs.inner.Put.{finishOf};
+ghost use Rattle.store.specs.inner.Calls.{Shrinking};
 ghost use Rattle.layout.specs.Numbers.{filesMax};
+ghost use Rattle.store.specs.Store.{storedOf};
+ghost use Rattle.store.specs.inner.Store.{stays, shrinks};
+ghost use Rattle.grow.specs.inner.Setting.{setting};
+ghost use Rattle.grow.specs.Setting.{testedOf};
 
 // Whether geometry, slices, health bytes, L and window are not refused.
 pub fn valid_store(g: Geometry, l: u32, len: usize, health: &[u8], w: Lookahead) -> bool
-    ensures { λ r. ⌜ r ≡ testedOf (g .«block_size») (g .«block_count») l len (now (health .entry)) w ⌝ }
+    ensures { λ r. ⌜ r ≡ testedOf (setting (g .«block_size») (g .«block_count») l (now (health .entry))) w len ⌝ }
 {
     let n = g.block_count;
     if !card::good_card(g, len) {
@@ -63,7 +66,7 @@ pub fn finish(t: Table, i: u32, wrote: Wrote) -> Stored
 // The file at place `i` cut down to `size` bytes: its head is then the block of its last byte.
 pub fn shrink(b: u32, n: u32, image: &[u8], w: Lookahead, t: Table, i: u32, size: u32) -> Stored
     requires { ⌜ Shrinking b n (length (now image)) t i size ⌝ }
-    ensures { λ r. ⌜ r ≡ shrinks b n (now (image .entry)) w t i size .stored ⌝ }
+    ensures { λ r. ⌜ r ≡ storedOf (shrinks b n (now (image .entry)) w t i size) ⌝ }
 {
     if size == 0 {
         return Stored {

@@ -7,13 +7,14 @@ use native.Mathlib.Nat.{mod-lt, min-le-left, min-le-right}
 use native.Mathlib.Omega.{arith}
 use Rattle.window.specs.declared.Lookahead.{Lookahead}
 use Rattle.window.specs.declared.Got.the-variants.{Empty}
-use Rattle.window.specs.Value.{freshOf, checkpointOf, droppedOf, withMap, Valid}
-use Rattle.window.specs.Search.{freeFrom, moved, takeCase, takeOf}
+use Rattle.window.specs.Value.{freshOf, checkpointOf, droppedOf, withMap}
+use Rattle.window.specs.Allocate.{freeFrom, moved, takeCase, takeOf}
 use Rattle.window.specs.Scan.{Seen, cleared, markOn, scanCase, scanOf}
 use Rattle.window.proofs.Cases.{ltb-cases}
 use Rattle.window.proofs.Search.{free-stops}
+use Rattle.window.specs.inner.Facts.{ValidWindow, scope}
 
-pub fresh-valid : (n l s : ℕ) → s < n → Valid (freshOf s n) n l
+pub fresh-valid : (n l s : ℕ) → s < n → ValidWindow (freshOf (scope n l) s) n l
 fresh-valid n l s h =
     record {
       start-lt = h;
@@ -24,8 +25,8 @@ fresh-valid n l s h =
       ck-le = omega arith;
     }
 
-module _ {w : Lookahead} {n l : ℕ} (g : Valid w n l) where
-  pub checkpoint-valid : Valid (checkpointOf w n) n l
+module _ {w : Lookahead} {n l : ℕ} (g : ValidWindow w n l) where
+  pub checkpoint-valid : ValidWindow (checkpointOf n w) n l
   checkpoint-valid =
       record {
         start-lt = g .start-lt;
@@ -36,7 +37,7 @@ module _ {w : Lookahead} {n l : ℕ} (g : Valid w n l) where
         ck-le = omega arith;
       }
 
-  pub dropped-valid : Valid (droppedOf w n) n l
+  pub dropped-valid : ValidWindow (droppedOf n w) n l
   dropped-valid =
       record {
         start-lt = g .start-lt;
@@ -47,7 +48,7 @@ module _ {w : Lookahead} {n l : ℕ} (g : Valid w n l) where
         ck-le = omega arith;
       }
 
-  pub map-valid : (m : List ℕ) → Valid (withMap w m) n l
+  pub map-valid : (m : List ℕ) → ValidWindow (withMap w m) n l
   map-valid m =
       record {
         start-lt = g .start-lt;
@@ -58,7 +59,7 @@ module _ {w : Lookahead} {n l : ℕ} (g : Valid w n l) where
         ck-le = g .ck-le;
       }
 
-  pub moved-valid : (to : ℕ) → w .next ≤ to → to ≤ w .size → Valid (moved w to) n l
+  pub moved-valid : (to : ℕ) → w .next ≤ to → to ≤ w .size → ValidWindow (moved w to) n l
   moved-valid to a b =
       record {
         start-lt = g .start-lt;
@@ -69,7 +70,7 @@ module _ {w : Lookahead} {n l : ℕ} (g : Valid w n l) where
         ck-le = omega (arith, g .ck-le);
       }
 
-  pub cleared-valid : Valid (cleared w n l) n l
+  pub cleared-valid : ValidWindow (cleared (scope n l) w) n l
   unfolding cleared
   cleared-valid =
       let a = min-le-left (8 * l) (w .ckpoint) in
@@ -83,33 +84,33 @@ module _ {w : Lookahead} {n l : ℕ} (g : Valid w n l) where
         ck-le = omega (arith, g .ck-le);
       }
 
-  pub take-valid : Valid (takeOf w n .window) n l
+  pub take-valid : ValidWindow (takeOf n w .window) n l
   unfolding takeOf
   take-valid =
-      let at = freeFrom (w .map) (w .next) (w .size) in
+      let at = freeFrom w (w .next) in
       let p = free-stops (w .map) (w .next) (w .size) (g .next-le) in
-      ltb-cases at (w .size) (λ t. Valid (takeCase t w n at .window) n l)
+      ltb-cases at (w .size) (λ t. ValidWindow (takeCase t n w at .window) n l)
       (λ h. let q = free-stops (w .map) (at + 1) (w .size) (omega arith) in moved-valid _ (omega (arith, p .ge, q .ge)) (q .le))
       (λ h. moved-valid at (p .ge) (p .le))
 
   -- a search that used the window up passed every offset that was left
-  pub take-empty : takeOf w n .answer ≡ Empty → takeOf w n .window .ckpoint ≡ w .ckpoint - (w .size - w .next)
+  pub take-empty : takeOf n w .answer ≡ Empty → takeOf n w .window .ckpoint ≡ w .ckpoint - (w .size - w .next)
   unfolding takeOf
   take-empty =
-      let at = freeFrom (w .map) (w .next) (w .size) in
+      let at = freeFrom w (w .next) in
       let p = free-stops (w .map) (w .next) (w .size) (g .next-le) in
       ltb-cases at (w .size)
-      (λ t. takeCase t w n at .answer ≡ Empty → takeCase t w n at .window .ckpoint ≡ w .ckpoint - (w .size - w .next))
+      (λ t. takeCase t n w at .answer ≡ Empty → takeCase t n w at .window .ckpoint ≡ w .ckpoint - (w .size - w .next))
       (λ h e. let z : _≡_ {A = ℕ} 0 1 = cc in absurd (omega arith))
       (λ h e. omega (arith, p .le))
 
-pub scan-valid : {w : Lookahead} {n l : ℕ} (seen : Seen) → Valid w n l → Valid (scanOf n l seen w .window) n l
+pub scan-valid : {w : Lookahead} {n l : ℕ} (seen : Seen) → ValidWindow w n l → ValidWindow (scanOf (scope n l) seen w .window) n l
 unfolding scanOf
 scan-valid {w} {n} {l} seen g = go (seen .ok)
   where
-    v : Valid (markOn (cleared w n l) n (seen .blocks)) n l
+    v : ValidWindow (markOn n (cleared (scope n l) w) (seen .blocks)) n l
     v = map-valid (cleared-valid g) _
 
-    go : (t : Bool) → Valid (scanCase t (markOn (cleared w n l) n (seen .blocks)) n .window) n l
+    go : (t : Bool) → ValidWindow (scanCase t n (markOn n (cleared (scope n l) w) (seen .blocks)) .window) n l
     go true = v
     go false = dropped-valid v

@@ -6,37 +6,40 @@ use native.Mathlib.Nat.{min-le-left, min-le-right, le-trans, le-min}
 use native.Mathlib.Omega.{arith}
 use lib.Dec.{leb}
 use borrow.Author.Tests.{ltb-true, leb-true, lt-ltb, le-ltb, le-leb, lt-leb}
-use Rattle.layout.specs.Geometry.{sizeFits, countFits, cardFits, madeOf}
+use Rattle.layout.specs.Geometry.{sizeFits, countFits, cardFits}
 use Rattle.layout.specs.declared.Geometry.{Geometry}
 use Rattle.layout.specs.declared.Made.the-variants as made
 use Rattle.layout.proofs.Makes.{made-fits, refused-fits}
 use Rattle.window.specs.declared.Lookahead.{Lookahead}
-use Rattle.window.specs.Value.{lookaheadFits, sizesFit, validOf, Valid, Sizes, Good}
+use Rattle.window.specs.Value.{lookaheadFits, validOf, sizesFit}
+use Rattle.window.specs.inner.Facts.{ValidWindow, GoodScope, Searchable, scope}
+use Rattle.layout.specs.inner.Served.{geometry}
+use Rattle.layout.specs.inner.Made.{madeOf}
 
 module _ (w : Lookahead) (n l : ℕ) where
   -- the tests one by one: the first that fails, and the last where none before it does
-  pub bad-start : n ≤ w .start → false ≡ validOf w n l
+  pub bad-start : n ≤ w .start → false ≡ validOf (scope n l) w
   unfolding validOf
   bad-start a = rw (le-ltb _ _ a)
 
-  pub bad-next : w .start < n → w .size < w .next → false ≡ validOf w n l
+  pub bad-next : w .start < n → w .size < w .next → false ≡ validOf (scope n l) w
   unfolding validOf
   bad-next a b = rw (lt-ltb _ _ a, lt-leb _ _ b)
 
-  pub bad-size : w .start < n → w .next ≤ w .size → min (8 * l) n < w .size → false ≡ validOf w n l
+  pub bad-size : w .start < n → w .next ≤ w .size → min (8 * l) n < w .size → false ≡ validOf (scope n l) w
   unfolding validOf
   bad-size a b c = rw (lt-ltb _ _ a, le-leb _ _ b, lt-leb _ _ c)
 
-  pub bad-left : w .start < n → w .next ≤ w .size → w .size ≤ min (8 * l) n → w .ckpoint < w .size - w .next → false ≡ validOf w n l
+  pub bad-left : w .start < n → w .next ≤ w .size → w .size ≤ min (8 * l) n → w .ckpoint < w .size - w .next → false ≡ validOf (scope n l) w
   unfolding validOf
   bad-left a b c d = rw (lt-ltb _ _ a, le-leb _ _ b, le-leb _ _ c, lt-leb _ _ d)
 
-  pub last-test : w .start < n → w .next ≤ w .size → w .size ≤ min (8 * l) n → w .size - w .next ≤ w .ckpoint → leb (w .ckpoint) n ≡ validOf w n l
+  pub last-test : w .start < n → w .next ≤ w .size → w .size ≤ min (8 * l) n → w .size - w .next ≤ w .ckpoint → leb (w .ckpoint) n ≡ validOf (scope n l) w
   unfolding validOf
   last-test a b c d = rw (lt-ltb _ _ a, le-leb _ _ b, le-leb _ _ c, le-leb _ _ d)
 
   -- THEOREM. The test says valid exactly for the valid windows.
-  pub tested-valid : validOf w n l ≡ true → Valid w n l
+  pub tested-valid : validOf (scope n l) w ≡ true → ValidWindow w n l
   unfolding validOf
   tested-valid e =
       let all = and-eq-true-iff _ _ .0 e in
@@ -53,7 +56,7 @@ module _ (w : Lookahead) (n l : ℕ) where
         ck-le = leb-true _ _ (all .1);
       }
 
-  pub valid-tested : Valid w n l → validOf w n l ≡ true
+  pub valid-tested : ValidWindow w n l → validOf (scope n l) w ≡ true
   unfolding validOf
   valid-tested g =
       rw (
@@ -65,7 +68,7 @@ module _ (w : Lookahead) (n l : ℕ) where
       )
 
   -- what a search asks
-  pub good : Sizes n l → Valid w n l → Good w n
+  pub good : GoodScope n l → ValidWindow w n l → Searchable w n
   good z g =
       record {
         n-le = z .n-le;
@@ -76,25 +79,27 @@ module _ (w : Lookahead) (n l : ℕ) where
       }
 
 -- the test of L, and that of the geometry before it
-pub looks : (n l : ℕ) → 0 < n → n ≤ 65536 → lookaheadFits l ≡ true → Sizes n l
+pub looks : (n l : ℕ) → 0 < n → n ≤ 65536 → lookaheadFits l ≡ true → GoodScope n l
 unfolding lookaheadFits
 looks n l some few e =
     let bounds = and-eq-true-iff _ _ .0 (and-eq-true-iff _ _ .0 e .0) in
     record { n-pos = some; n-le = few; l-ge = leb-true _ _ (bounds .0); l-le = leb-true _ _ (bounds .1) }
 
-pub sizes : (B N l : ℕ) → sizesFit B N l ≡ true → Sizes N l
+pub sizes : (g : Geometry) (l : ℕ) → sizesFit g l ≡ true → GoodScope (g .«block_count») l
 unfolding sizesFit
-sizes B N l e =
-    let all = and-eq-true-iff (cardFits B N) (lookaheadFits l) .0 e in
+sizes g l e =
+    let B = g .«block_size» in
+    let N = g .«block_count» in
+    let all = and-eq-true-iff (cardFits (geometry B N)) (lookaheadFits l) .0 e in
     let card = and-eq-true-iff (sizeFits B && countFits N) _ .0 (all .0) in
     let count = and-eq-true-iff _ _ .0 (and-eq-true-iff (sizeFits B) _ .0 (card .0) .1) in
     looks N l (leb-true _ _ (count .0)) (leb-true _ _ (count .1)) (all .1)
 
 -- what `Geometry::new` answers leaves the test of L, or none
-pub sizes-made : (B N l : ℕ) (g : Geometry) → madeOf B N ≡ made.Card g → lookaheadFits l ≡ sizesFit B N l
+pub sizes-made : (h : Geometry) (l : ℕ) (g : Geometry) → madeOf (geometry (h .«block_size») (h .«block_count»)) ≡ made.Card g → lookaheadFits l ≡ sizesFit h l
 unfolding sizesFit
-sizes-made B N l g e = rw (made-fits B N g e)
+sizes-made h l g e = rw (made-fits (h .«block_size») (h .«block_count») g e)
 
-pub sizes-refused : (B N l : ℕ) → madeOf B N ≡ made.Refused → false ≡ sizesFit B N l
+pub sizes-refused : (h : Geometry) (l : ℕ) → madeOf (geometry (h .«block_size») (h .«block_count»)) ≡ made.Refused → false ≡ sizesFit h l
 unfolding sizesFit
-sizes-refused B N l e = rw (refused-fits B N e)
+sizes-refused h l e = rw (refused-fits (h .«block_size») (h .«block_count») e)

@@ -4,9 +4,10 @@ pub mod setup;
 
 ghost use mathlib.Core.Path.{_≡_};
 ghost use Prim.Native.Nat.{_≤_, min};
-ghost use Rattle.window.specs.Value.{checkpointOf, droppedOf, validOf, lookaheadFits, Good};
-ghost use Rattle.window.specs.Search.{takeOf};
+ghost use Rattle.window.specs.Value.{checkpointOf, droppedOf, validOf, lookaheadFits};
+ghost use Rattle.window.specs.Allocate.{takeOf};
 ghost use Rattle.window.specs.Scan.{cleared};
+ghost use Rattle.window.specs.inner.Facts.{Searchable, scope};
 
 // Bit o % 8 of byte o / 8 stands for block start + o modulo the block count. Of `size` offsets `next` were passed; the checkpoint count says how many
 // blocks may still be passed.
@@ -61,7 +62,7 @@ fn smaller(a: u32, b: u32) -> u32
 
 // The checkpoint: every block of the card may be passed again.
 pub fn alloc_ckpoint(w: Lookahead, n: u32) -> Lookahead
-    ensures { λ r. ⌜ r ≡ checkpointOf w n ⌝ }
+    ensures { λ r. ⌜ r ≡ checkpointOf n w ⌝ }
 {
     let mut v = w;
     v.ckpoint = n;
@@ -70,7 +71,7 @@ pub fn alloc_ckpoint(w: Lookahead, n: u32) -> Lookahead
 
 // The window with nothing left in it, checkpointed.
 pub fn alloc_drop(w: Lookahead, n: u32) -> Lookahead
-    ensures { λ r. ⌜ r ≡ droppedOf w n ⌝ }
+    ensures { λ r. ⌜ r ≡ droppedOf n w ⌝ }
 {
     let mut v = w;
     v.size = 0;
@@ -80,8 +81,8 @@ pub fn alloc_drop(w: Lookahead, n: u32) -> Lookahead
 
 // The first unmarked block, and the window moved on to the next unmarked offset or the end; each block passed lowers the count.
 pub fn take(w: Lookahead, n: u32) -> Taken
-    requires { ⌜ Good w n ⌝ }
-    ensures { λ r. ⌜ r ≡ takeOf w n ⌝ }
+    requires { ⌜ Searchable w n ⌝ }
+    ensures { λ r. ⌜ r ≡ takeOf n w ⌝ }
 {
     let next = w.next;
     let size = w.size;
@@ -109,8 +110,8 @@ pub fn take(w: Lookahead, n: u32) -> Taken
 
 // The start of a scan: the window moved on by what it passed, as long as L and the count allow, with nothing marked yet.
 pub fn cleared(w: Lookahead, n: u32, l: u32) -> Lookahead
-    requires { ⌜ (Good w n) × (l ≤ 64) ⌝ }
-    ensures { λ r. ⌜ r ≡ cleared w n l ⌝ }
+    requires { ⌜ (Searchable w n) × (l ≤ 64) ⌝ }
+    ensures { λ r. ⌜ r ≡ cleared (scope n l) w ⌝ }
 {
     Lookahead {
         map: [0u8; 64],
@@ -137,7 +138,7 @@ pub fn valid_lookahead(l: u32) -> bool
 // Whether a window is one for this block count and lookahead.
 pub fn valid_window(w: Lookahead, n: u32, l: u32) -> bool
     requires { ⌜ l ≤ 64 ⌝ }
-    ensures { λ r. ⌜ r ≡ validOf w n l ⌝ }
+    ensures { λ r. ⌜ r ≡ validOf (scope n l) w ⌝ }
 {
     if n <= w.start {
         return false;

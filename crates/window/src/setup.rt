@@ -3,8 +3,7 @@ use crate::Lookahead;
 use layout::Geometry;
 use layout::Made;
 ghost use mathlib.Core.Path.{_≡_};
-ghost use Rattle.window.specs.Value.{sizesFit};
-ghost use Rattle.window.specs.Replies.{freshReply, checkpointReply, droppedReply};
+ghost use Rattle.window.specs.Value.{sizesFit, freshReply, checkpointReply, droppedReply};
 
 // What these calls answer.
 pub enum Reply {
@@ -20,7 +19,7 @@ pub struct Replied {
 
 // Whether geometry and lookahead are right.
 pub fn valid_sizes(g: Geometry, l: u32) -> bool
-    ensures { λ r. ⌜ r ≡ sizesFit (g .«block_size») (g .«block_count») l ⌝ }
+    ensures { λ r. ⌜ r ≡ sizesFit g l ⌝ }
 {
     let made = Geometry::new(g.block_size, g.block_count);
     match made {
@@ -31,7 +30,7 @@ pub fn valid_sizes(g: Geometry, l: u32) -> bool
 
 // A fresh window from block `start` on. Refused: the window of zeros.
 pub fn fresh(g: Geometry, l: u32, start: u32) -> Replied
-    ensures { λ r. ⌜ r ≡ freshReply (g .«block_size») (g .«block_count») l start ⌝ }
+    ensures { λ r. ⌜ r ≡ freshReply g (record { L = l; start = start }) ⌝ }
 {
     let n = g.block_count;
     if valid_sizes(g, l) {
@@ -62,7 +61,7 @@ pub fn fresh(g: Geometry, l: u32, start: u32) -> Replied
 
 // The window checkpointed. Refused: the window as it came.
 pub fn checkpoint(g: Geometry, l: u32, w: Lookahead) -> Replied
-    ensures { λ r. ⌜ r ≡ checkpointReply (g .«block_size») (g .«block_count») l w ⌝ }
+    ensures { λ r. ⌜ r ≡ checkpointReply g l w ⌝ }
 {
     let n = g.block_count;
     if valid_sizes(g, l) {
@@ -81,7 +80,7 @@ pub fn checkpoint(g: Geometry, l: u32, w: Lookahead) -> Replied
 
 // The window dropped. Refused: the window as it came.
 pub fn dropped(g: Geometry, l: u32, w: Lookahead) -> Replied
-    ensures { λ r. ⌜ r ≡ droppedReply (g .«block_size») (g .«block_count») l w ⌝ }
+    ensures { λ r. ⌜ r ≡ droppedReply g l w ⌝ }
 {
     let n = g.block_count;
     if valid_sizes(g, l) {

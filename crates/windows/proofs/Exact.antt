@@ -11,16 +11,16 @@ use Rattle.window.specs.declared.Answer.{Answer}
 use Rattle.window.specs.declared.Lookahead.{Lookahead}
 use Rattle.window.specs.Allocate.{allocOf}
 use Rattle.window.specs.Scan.{Seen}
-use Rattle.window.specs.Value.{Sizes}
 use Rattle.window.proofs.Cases.{no-both}
-use Rattle.windows.specs.Call.{Handed, Lists, On, Passed, Shows, View, bad, exactly, full, handed, isBlock}
-use Rattle.windows.specs.Space.{Knows, Spent, askOf, bit, enough, goodIn, last, more, onAnswer, unless, unusedFrom}
+use Rattle.windows.proofs.Views.{Handed, Lists, On, Shows, View, bad, exactly, full, handed, isBlock, PassedMarked}
+use Rattle.windows.proofs.Asking.{Knows, askOf, bit, enough, goodIn, last, more, onAnswer, unusedFrom, SpentWindow, unlessUsed}
 use Rattle.windows.proofs.Alloc.{alloc-from}
 use Rattle.windows.proofs.Answers.{block-eq, not-block, not-full}
+use Rattle.window.specs.inner.Facts.{GoodScope, scope}
 
 module _ (base n : ℕ) (used : ℕ → Bool) where
   -- one place of the circle
-  from-at : (c k : ℕ) → k < n → c ≡ n - k → unusedFrom base n used c ≡ unless (used ((base + k) % n)) ((base + k) % n) (unusedFrom base n used (n - suc k))
+  from-at : (c k : ℕ) → k < n → c ≡ n - k → unusedFrom base n used c ≡ unlessUsed (used ((base + k) % n)) ((base + k) % n) (unusedFrom base n used (n - suc k))
   unfolding unusedFrom
   from-at c k h e =
       let f : c ≡ suc (n - suc k) = omega arith in
@@ -28,16 +28,16 @@ module _ (base n : ℕ) (used : ℕ → Bool) where
       rw (f, g)
 
   -- used places fall out
-  from-skip : (d a : ℕ) → a + d ≤ n → Passed (exactly used) base n a (a + d) → unusedFrom base n used (n - a) ≡ unusedFrom base n used (n - (a + d))
+  from-skip : (d a : ℕ) → a + d ≤ n → PassedMarked (exactly used) base n a (a + d) → unusedFrom base n used (n - a) ≡ unusedFrom base n used (n - (a + d))
   from-skip zero a h p = ap (λ (x : ℕ). unusedFrom base n used (n - x)) (omega arith)
   from-skip (suc d) a h p =
       let e : suc a + d ≡ a + suc d = omega arith in
       from-at (n - a) a (omega arith) refl
-      ∙ ap (λ (t : Bool). unless t ((base + a) % n) (unusedFrom base n used (n - suc a))) (sym (p a (omega arith) (omega arith)))
+      ∙ ap (λ (t : Bool). unlessUsed t ((base + a) % n) (unusedFrom base n used (n - suc a))) (sym (p a (omega arith) (omega arith)))
       ∙ from-skip d (suc a) (omega arith) (λ k lo hi. p k (omega arith) (omega arith))
       ∙ ap (λ (x : ℕ). unusedFrom base n used (n - x)) e
 
-  from-to : (a b : ℕ) → a ≤ b → b ≤ n → Passed (exactly used) base n a b → unusedFrom base n used (n - a) ≡ unusedFrom base n used (n - b)
+  from-to : (a b : ℕ) → a ≤ b → b ≤ n → PassedMarked (exactly used) base n a b → unusedFrom base n used (n - a) ≡ unusedFrom base n used (n - b)
   from-to a b h l p =
       let e : a + (b - a) ≡ b = omega arith in
       from-skip (b - a) a (omega arith) (λ k lo hi. p k lo (omega arith)) ∙ ap (λ (x : ℕ). unusedFrom base n used (n - x)) e
@@ -52,11 +52,11 @@ module _ (base n : ℕ) (used : ℕ → Bool) where
       ap (λ (x : ℕ). unusedFrom base n used x) (sym ec)
       ∙ from-to (n - c) k (h .from) (omega arith) (h .before)
       ∙ from-at (n - k) k kn refl
-      ∙ ap (λ (x : ℕ). unless (used x) x (unusedFrom base n used (n - suc k))) (sym (h .is))
-      ∙ ap (λ (t : Bool). unless t b (unusedFrom base n used (n - suc k))) (sym (h .says))
+      ∙ ap (λ (x : ℕ). unlessUsed (used x) x (unusedFrom base n used (n - suc k))) (sym (h .is))
+      ∙ ap (λ (t : Bool). unlessUsed t b (unusedFrom base n used (n - suc k))) (sym (h .says))
       ∙ ap (λ (x : List ℕ). b ∷ x) (from-to (suc k) (n - d) (h .below) (omega arith) (h .after) ∙ ap (λ (x : ℕ). unusedFrom base n used x) ed)
 
-  pub full-none : (c : ℕ) → c ≤ n → Passed (exactly used) base n (n - c) n → unusedFrom base n used c ≡ []
+  pub full-none : (c : ℕ) → c ≤ n → PassedMarked (exactly used) base n (n - c) n → unusedFrom base n used c ≡ []
   unfolding unusedFrom
   full-none c h p =
       let ec : n - (n - c) ≡ c = omega arith in
@@ -83,31 +83,31 @@ pub lists-shows : {n : ℕ} {listed : List ℕ} {seen : Seen} → Lists n listed
 lists-shows t = record { low = t .low; same = λ _ b. t .same b }
 
 -- THEOREM. One allocation, and with a block handed out the window knows what it knew.
-pub view : (n l : ℕ) (listed : List ℕ) (used : ℕ → Bool) (seen : Seen) → Sizes n l → Shows n listed seen → (base : ℕ) (w : Lookahead) → Knows n l listed used base w
-    → View (exactly used) base n (seen .ok) (w .ckpoint) (allocOf n l seen w .answer) (allocOf n l seen w .window)
-    × (isBlock (allocOf n l seen w .answer) ≡ true → On base n (allocOf n l seen w .window) → Knows n l listed used base (allocOf n l seen w .window))
+pub view : (n l : ℕ) (listed : List ℕ) (used : ℕ → Bool) (seen : Seen) → GoodScope n l → Shows n listed seen → (base : ℕ) (w : Lookahead) → Knows n l listed used base w
+    → View (exactly used) base n (seen .ok) (w .ckpoint) (allocOf (scope n l) seen w .answer) (allocOf (scope n l) seen w .window)
+    × (isBlock (allocOf (scope n l) seen w .answer) ≡ true → On base n (allocOf (scope n l) seen w .window) → Knows n l listed used base (allocOf (scope n l) seen w .window))
 view n l listed used seen z t base w k =
     let r = alloc-from (exactly used) base n l seen z (t .low) (n - w .ckpoint + (w .size - w .next)) (λ ok p lo hi. t .same ok _ ∙ k .later p lo hi)
     w (k .valid) (k .says) (k .on) (omega arith) in
     (r .0 .view, λ b o. record { valid = r .0 .valid; says = r .0 .says; on = o; later = λ p lo hi. k .later p (omega (arith, r .1 b)) hi })
 
-module _ (n l : ℕ) (listed : List ℕ) (used : ℕ → Bool) (seen : Seen) (z : Sizes n l) (t : Lists n listed seen) where
+module _ (n l : ℕ) (listed : List ℕ) (used : ℕ → Bool) (seen : Seen) (z : GoodScope n l) (t : Lists n listed seen) where
   abbrev all : ℕ → ℕ → List ℕ
   all base c = unusedFrom base n used c
 
   -- THEOREM. Asked again and again, allocation hands out the blocks that are left and not used, in circular order, and then answers -28.
-  pub spent : (f base : ℕ) (w : Lookahead) → w .ckpoint < f → Knows n l listed used base w → (v : Lookahead) × Spent n l seen w (all base (w .ckpoint)) v
+  pub spent : (f base : ℕ) (w : Lookahead) → w .ckpoint < f → Knows n l listed used base w → (v : Lookahead) × SpentWindow n l seen w (all base (w .ckpoint)) v
   spent zero base w lt k = absurd (omega arith)
   spent (suc f) base w lt k =
       let r = view n l listed used seen z (lists-shows t) base w k in
-      go (r .0) refl (λ b lower o. spent f base (allocOf n l seen w .window) lower (r .1 b o))
+      go (r .0) refl (λ b lower o. spent f base (allocOf (scope n l) seen w .window) lower (r .1 b o))
     where
       u : Lookahead
-      u = allocOf n l seen w .window
+      u = allocOf (scope n l) seen w .window
 
-      go : {q : Answer} → View (exactly used) base n (seen .ok) (w .ckpoint) q u → allocOf n l seen w .answer ≡ q
-          → (isBlock (allocOf n l seen w .answer) ≡ true → u .ckpoint < f → On base n u → (v : Lookahead) × Spent n l seen u (all base (u .ckpoint)) v)
-          → (v : Lookahead) × Spent n l seen w (all base (w .ckpoint)) v
+      go : {q : Answer} → View (exactly used) base n (seen .ok) (w .ckpoint) q u → allocOf (scope n l) seen w .answer ≡ q
+          → (isBlock (allocOf (scope n l) seen w .answer) ≡ true → u .ckpoint < f → On base n u → (v : Lookahead) × SpentWindow n l seen u (all base (u .ckpoint)) v)
+          → (v : Lookahead) × SpentWindow n l seen w (all base (w .ckpoint)) v
       go (handed {b = b} p o) e ih =
           let r = ih (ap isBlock e) (omega (arith, p .from, p .below)) o in
           (r .0, rw (handed-first base n used (w .ckpoint) b (u .ckpoint) (k .valid .ck-le) p) (more b e (r .1)))
@@ -121,10 +121,10 @@ module _ (n l : ℕ) (listed : List ℕ) (used : ℕ → Bool) (seen : Seen) (z 
   asked zero base good m w lt k = absurd (omega arith)
   asked (suc f) base good m w lt k =
       let r = view n l listed used seen z (lists-shows t) base w k in
-      go m (allocOf n l seen w .answer) (r .0) (λ b x lower o. asked f base good x (allocOf n l seen w .window) lower (r .1 b o))
+      go m (allocOf (scope n l) seen w .answer) (r .0) (λ b x lower o. asked f base good x (allocOf (scope n l) seen w .window) lower (r .1 b o))
     where
       u : Lookahead
-      u = allocOf n l seen w .window
+      u = allocOf (scope n l) seen w .window
 
       go : (m : ℕ) (q : Answer) → View (exactly used) base n (seen .ok) (w .ckpoint) q u
           → (isBlock q ≡ true → (x : ℕ) → u .ckpoint < f → On base n u → askOf f good n l seen x u ≡ leb x (goodIn good (all base (u .ckpoint))))
@@ -139,7 +139,7 @@ module _ (n l : ℕ) (listed : List ℕ) (used : ℕ → Bool) (seen : Seen) (z 
       go (suc m) answer.Damaged (bad f _ _) ih = absurd (no-both (seen .ok) (t .ok) f)
 
 -- there is one such sequence only
-pub one-spent : {n l : ℕ} {seen : Seen} {w u v : Lookahead} {bs cs : List ℕ} → Spent n l seen w bs u → Spent n l seen w cs v → bs ≡ cs
+pub one-spent : {n l : ℕ} {seen : Seen} {w u v : Lookahead} {bs cs : List ℕ} → SpentWindow n l seen w bs u → SpentWindow n l seen w cs v → bs ≡ cs
 one-spent (last e) (last e′) = refl
 one-spent (last e) (more b e′ r) = not-block b _ (sym e ∙ e′)
 one-spent (more b e r) (last e′) = not-full b _ (sym e ∙ e′)

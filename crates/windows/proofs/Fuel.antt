@@ -6,15 +6,14 @@ use native.Mathlib.Omega.{arith}
 use Rattle.window.specs.declared.Allocated.{Allocated}
 use Rattle.window.specs.declared.Got.{Got}
 use Rattle.window.specs.declared.Lookahead.{Lookahead}
-use Rattle.window.specs.Allocate.{allocBy, allocOf, onGot, onScan, usedUp}
+use Rattle.window.specs.Allocate.{allocBy, allocOf, onGot, onScan, usedUp, takeOf}
 use Rattle.window.specs.Scan.{Seen, cleared, markOn, scanCase, scanOf}
-use Rattle.window.specs.Search.{takeOf}
-use Rattle.window.specs.Value.{Sizes, Valid}
 use Rattle.window.proofs.Cases.{eqb-cases}
 use Rattle.window.proofs.Kept.{cleared-valid, map-valid}
 use Rattle.window.proofs.Turns.{left, less}
-use Rattle.windows.specs.Call.{Claim}
+use Rattle.windows.proofs.Views.{Claim}
 use Rattle.windows.proofs.Alloc.{Search, found, used, Sought, sought, some-on}
+use Rattle.window.specs.inner.Facts.{ValidWindow, GoodScope, scope}
 
 over : (c s : ℕ) → c + (1 - s) ≤ c + 2
 over c s = omega arith
@@ -25,18 +24,18 @@ under x y c s e h = omega arith
 nothing : Claim
 nothing b t = _≡_ {A = ℕ} 0 0
 
-module _ (n l : ℕ) (seen : Seen) (z : Sizes n l) where
-  search : (w : Lookahead) → Valid w n l → Sought nothing ((w .start + w .next + w .ckpoint) % n) n l w (takeOf w n .answer) (takeOf w n .window)
+module _ (n l : ℕ) (seen : Seen) (z : GoodScope n l) where
+  search : (w : Lookahead) → ValidWindow w n l → Sought nothing ((w .start + w .next + w .ckpoint) % n) n l w (takeOf n w .answer) (takeOf n w .window)
   unfolding nothing
   search w g = sought nothing ((w .start + w .next + w .ckpoint) % n) n l w g (λ o a b. refl) (some-on n l w g)
 
-  same-scan : (v : Lookahead) (F G : Lookahead → Allocated) → Valid v n l
-      → ((u : Lookahead) → Valid u n l → left u ≡ v .ckpoint + (1 - (min (8 * l) (v .ckpoint) - 0)) → F u ≡ G u) → onScan (scanOf n l seen v) F ≡ onScan (scanOf n l seen v) G
+  same-scan : (v : Lookahead) (F G : Lookahead → Allocated) → ValidWindow v n l
+      → ((u : Lookahead) → ValidWindow u n l → left u ≡ v .ckpoint + (1 - (min (8 * l) (v .ckpoint) - 0)) → F u ≡ G u) → onScan (scanOf (scope n l) seen v) F ≡ onScan (scanOf (scope n l) seen v) G
   unfolding scanOf cleared
   same-scan v F G g h = go (seen .ok)
     where
-      go : (t : Bool) → onScan (scanCase t (markOn (cleared v n l) n (seen .blocks)) n) F ≡ onScan (scanCase t (markOn (cleared v n l) n (seen .blocks)) n) G
-      go true = h (markOn (cleared v n l) n (seen .blocks)) (map-valid (cleared-valid g) _) refl
+      go : (t : Bool) → onScan (scanCase t n (markOn n (cleared (scope n l) v) (seen .blocks))) F ≡ onScan (scanCase t n (markOn n (cleared (scope n l) v) (seen .blocks))) G
+      go true = h (markOn n (cleared (scope n l) v) (seen .blocks)) (map-valid (cleared-valid g) _) refl
       go false = refl
 
   same-got : (base : ℕ) (w : Lookahead) (q : Got) (v : Lookahead) (F G : Lookahead → Allocated) → Search nothing base n w q v
@@ -46,7 +45,7 @@ module _ (n l : ℕ) (seen : Seen) (z : Sizes n l) where
       (λ t. usedUp t v F ≡ usedUp t v G) (λ o. refl) (λ o. k o e)
 
   -- any two amounts of fuel from `left w` up give the same answer
-  pub same-fuel : (k j : ℕ) (w : Lookahead) → Valid w n l → left w ≤ k → left w ≤ j → allocBy k n l seen w ≡ allocBy j n l seen w
+  pub same-fuel : (k j : ℕ) (w : Lookahead) → ValidWindow w n l → left w ≤ k → left w ≤ j → allocBy k (scope n l) seen w ≡ allocBy j (scope n l) seen w
   unfolding allocBy
   same-fuel zero j w g a b = absurd (omega (arith, g .left-le))
   same-fuel (suc k) zero w g a b = absurd (omega (arith, g .left-le))
@@ -57,8 +56,8 @@ module _ (n l : ℕ) (seen : Seen) (z : Sizes n l) where
       same-fuel k j u gu (omega arith) (omega arith)))
 
   -- THEOREM. The rule without fuel: search; if used up, -28 at count 0, else scan and allocate again.
-  pub alloc-rule : (w : Lookahead) → Valid w n l
-      → allocOf n l seen w ≡ onGot (takeOf w n .answer) (takeOf w n .window) (λ v. onScan (scanOf n l seen v) (λ u. allocOf n l seen u))
+  pub alloc-rule : (w : Lookahead) → ValidWindow w n l
+      → allocOf (scope n l) seen w ≡ onGot (takeOf n w .answer) (takeOf n w .window) (λ v. onScan (scanOf (scope n l) seen v) (λ u. allocOf (scope n l) seen u))
   unfolding allocOf allocBy
   alloc-rule w g =
       let e : w .ckpoint + 2 ≡ suc (w .ckpoint + 1) = omega arith in

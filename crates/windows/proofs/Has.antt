@@ -5,9 +5,9 @@ use mathlib.Core.List.{List, [], _∷_, _++_}
 use Prim.Native.Nat.{ℕ, _<_}
 use lib.Dec.{eqb}
 use borrow.Author.Tests.{eqb-true, eq-eqb}
-use Rattle.window.specs.Scan.{Below}
 use Rattle.window.proofs.Cases.{no-both}
 use Rattle.span.specs.Members.{has}
+use Rattle.windows.proofs.Views.{Below}
 
 pub or-right : (a b : Bool) → b ≡ true → (a || b) ≡ true
 or-right true b e = refl

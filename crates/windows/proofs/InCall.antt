@@ -9,15 +9,16 @@ use Rattle.window.specs.declared.Answer.the-variants as answer
 use Rattle.window.specs.declared.Answer.{Answer}
 use Rattle.window.specs.declared.Lookahead.{Lookahead}
 use Rattle.window.specs.Allocate.{allocOf}
-use Rattle.window.specs.Scan.{Below, Seen}
-use Rattle.window.specs.Value.{Sizes, Valid, checkpointOf}
+use Rattle.window.specs.Scan.{Seen}
+use Rattle.window.specs.Value.{checkpointOf}
 use Rattle.window.proofs.Cases.{no-both}
-use Rattle.windows.specs.Call.{Became, Clean, Different, During, New, Places, Result, Run, Tells, View, bad, cleanly, full, handed, isBlock, more, start}
+use Rattle.windows.proofs.Views.{Became, Different, During, New, Places, Result, Tells, View, bad, cleanly, full, handed, isBlock, more, start, Allocations, CleanWindow, Below}
 use Rattle.windows.proofs.Alloc.{alloc-view, on-place}
 use Rattle.windows.proofs.Answers.{block-eq, not-block, not-damaged}
 use Rattle.windows.proofs.Circle.{same-place}
 use Rattle.windows.proofs.Has.{else-false, has-cases, has-head, has-none}
 use Rattle.span.specs.Members.{has}
+use Rattle.window.specs.inner.Facts.{ValidWindow, GoodScope, scope}
 
 -- where a block that was handed out lies
 pub place-of : {base n d : ℕ} {out : List ℕ} → Places base n d out → (b : ℕ) → has out b ≡ true → (k : ℕ) × (k < d) × (b ≡ (base + k) % n)
@@ -62,14 +63,14 @@ window-other {n} {w = w} {out = out} s o a b =
     ∙ later-other (s .base-lt) (omega arith) (s .places) (n - w .ckpoint + (o - w .next)) (omega arith) (omega (arith, s .valid .left-le, s .valid .ck-le))
 
 -- THEOREM. So the window is clean for what is listed afterwards.
-pub clean-after : {n l : ℕ} {listed : List ℕ} {w : Lookahead} {out : List ℕ} (now : List ℕ) → During n l listed w out → Became listed out now → Clean n now w
+pub clean-after : {n l : ℕ} {listed : List ℕ} {w : Lookahead} {out : List ℕ} (now : List ℕ) → During n l listed w out → Became listed out now → CleanWindow n now w
 clean-after now s h o a b e = h _ (s .clean o a b e) (window-other s o a b)
 
 told-clean : {n : ℕ} {listed : List ℕ} {seen : Seen} → Tells n listed seen → seen .ok ≡ true → (b : ℕ) → cleanly listed b (has (seen .blocks) b)
 told-clean t ok b e = t .cover ok b e
 
 -- THEOREM. A call begins with a checkpoint.
-pub begins : (n l : ℕ) (listed : List ℕ) (w : Lookahead) → Valid w n l → Clean n listed w → During n l listed (checkpointOf w n) []
+pub begins : (n l : ℕ) (listed : List ℕ) (w : Lookahead) → ValidWindow w n l → CleanWindow n listed w → During n l listed (checkpointOf n w) []
 begins n l listed w g c =
     let e : w .start + w .next + (n - n) ≡ w .start + w .next = omega arith in
     record {
@@ -82,16 +83,16 @@ begins n l listed w g c =
       unlisted = λ b e. absurd (has-none b e);
     }
 
-module _ (n l : ℕ) (listed : List ℕ) (seen : Seen) (z : Sizes n l) (t : Tells n listed seen) where
-  result : {w : Lookahead} {out : List ℕ} → (s : During n l listed w out) → Result (cleanly listed) (s .base) n l (seen .ok) (w .ckpoint) (allocOf n l seen w)
+module _ (n l : ℕ) (listed : List ℕ) (seen : Seen) (z : GoodScope n l) (t : Tells n listed seen) where
+  result : {w : Lookahead} {out : List ℕ} → (s : During n l listed w out) → Result (cleanly listed) (s .base) n l (seen .ok) (w .ckpoint) (allocOf (scope n l) seen w)
   result {w} s = alloc-view (cleanly listed) (s .base) n l seen z (t .low) (told-clean t) w (s .valid) (s .clean) (s .on)
 
   -- THEOREM. It goes on with each block handed out ..
-  pub goes-on : {w : Lookahead} {out : List ℕ} (b : ℕ) → During n l listed w out → allocOf n l seen w .answer ≡ answer.Block b
-      → During n l listed (allocOf n l seen w .window) (b ∷ out)
+  pub goes-on : {w : Lookahead} {out : List ℕ} (b : ℕ) → During n l listed w out → allocOf (scope n l) seen w .answer ≡ answer.Block b
+      → During n l listed (allocOf (scope n l) seen w .window) (b ∷ out)
   goes-on {w} {out} b s e = let r = result s in go (r .valid) (r .says) (r .view) e
     where
-      go : {q : Answer} {v : Lookahead} → Valid v n l → Clean n listed v → View (cleanly listed) (s .base) n (seen .ok) (w .ckpoint) q v → q ≡ answer.Block b → During n l listed v (b ∷ out)
+      go : {q : Answer} {v : Lookahead} → ValidWindow v n l → CleanWindow n listed v → View (cleanly listed) (s .base) n (seen .ok) (w .ckpoint) q v → q ≡ answer.Block b → During n l listed v (b ∷ out)
       go gv cv (handed {b = b′} h o) e =
           let same : b′ ≡ b = block-eq b′ b e in
           record {
@@ -107,7 +108,7 @@ module _ (n l : ℕ) (listed : List ℕ) (seen : Seen) (z : Sizes n l) (t : Tell
       go gv cv (bad _ _ _) e = not-damaged b _ e
 
   -- .. each of which is new ..
-  pub new-block : {w : Lookahead} {out : List ℕ} (b : ℕ) → During n l listed w out → allocOf n l seen w .answer ≡ answer.Block b → New n listed out b
+  pub new-block : {w : Lookahead} {out : List ℕ} (b : ℕ) → During n l listed w out → allocOf (scope n l) seen w .answer ≡ answer.Block b → New n listed out b
   new-block {w} {out} b s e = go (goes-on b s e) (all-different (goes-on b s e))
     where
       here : has (b ∷ out) b ≡ true
@@ -117,33 +118,33 @@ module _ (n l : ℕ) (listed : List ℕ) (seen : Seen) (z : Sizes n l) (t : Tell
       go d (Different.one h r) = record { below = all-below d b here; unlisted = d .unlisted b here; other = h }
 
   -- .. up to an answer that is no block, which leaves a window that has nothing left
-  pub ends : {w : Lookahead} {out : List ℕ} → During n l listed w out → isBlock (allocOf n l seen w .answer) ≡ false
-      → allocOf n l seen w .window .size ≤ allocOf n l seen w .window .next
+  pub ends : {w : Lookahead} {out : List ℕ} → During n l listed w out → isBlock (allocOf (scope n l) seen w .answer) ≡ false
+      → allocOf (scope n l) seen w .window .size ≤ allocOf (scope n l) seen w .window .next
   ends {w} s e = let r = result s in go (r .valid) (r .view) e
     where
-      go : {q : Answer} {v : Lookahead} → Valid v n l → View (cleanly listed) (s .base) n (seen .ok) (w .ckpoint) q v → isBlock q ≡ false → v .size ≤ v .next
+      go : {q : Answer} {v : Lookahead} → ValidWindow v n l → View (cleanly listed) (s .base) n (seen .ok) (w .ckpoint) q v → isBlock q ≡ false → v .size ≤ v .next
       go g (handed _ _) e = absurd (no-both true refl e)
       go g (full c _ _) e = omega (arith, g .left-le)
       go g (bad _ c _) e = omega arith
 
   -- after -28 all that was said still holds
-  pub stays : {w : Lookahead} {out : List ℕ} → During n l listed w out → allocOf n l seen w .answer ≡ answer.NoSpace → During n l listed (allocOf n l seen w .window) out
+  pub stays : {w : Lookahead} {out : List ℕ} → During n l listed w out → allocOf (scope n l) seen w .answer ≡ answer.NoSpace → During n l listed (allocOf (scope n l) seen w .window) out
   stays {w} {out} s e = let r = result s in go (r .valid) (r .says) (r .view) e
     where
-      go : {q : Answer} {v : Lookahead} → Valid v n l → Clean n listed v → View (cleanly listed) (s .base) n (seen .ok) (w .ckpoint) q v → q ≡ answer.NoSpace → During n l listed v out
+      go : {q : Answer} {v : Lookahead} → ValidWindow v n l → CleanWindow n listed v → View (cleanly listed) (s .base) n (seen .ok) (w .ckpoint) q v → q ≡ answer.NoSpace → During n l listed v out
       go gv cv (handed _ _) e = let y : _≡_ {A = ℕ} 0 1 = cc in absurd (omega arith)
       go gv cv (full c _ o) e =
           record { base = s .base; base-lt = s .base-lt; valid = gv; clean = cv; on = o; places = places-wider (omega arith) (s .places); unlisted = s .unlisted }
       go gv cv (bad _ _ _) e = let y : _≡_ {A = ℕ} 0 1 = cc in absurd (omega arith)
 
   -- whatever the answer, the window is valid and clean
-  pub still-valid : {w : Lookahead} {out : List ℕ} → During n l listed w out → Valid (allocOf n l seen w .window) n l
+  pub still-valid : {w : Lookahead} {out : List ℕ} → During n l listed w out → ValidWindow (allocOf (scope n l) seen w .window) n l
   still-valid s = result s .valid
 
-  pub still-clean : {w : Lookahead} {out : List ℕ} → During n l listed w out → Clean n listed (allocOf n l seen w .window)
+  pub still-clean : {w : Lookahead} {out : List ℕ} → During n l listed w out → CleanWindow n listed (allocOf (scope n l) seen w .window)
   still-clean s = result s .says
 
 -- THEOREM. Every run of a call, from a valid and clean window.
-pub running : {n l : ℕ} {listed out : List ℕ} {w v : Lookahead} → Sizes n l → Valid w n l → Clean n listed w → Run n l listed (checkpointOf w n) out v → During n l listed v out
+pub running : {n l : ℕ} {listed out : List ℕ} {w v : Lookahead} → GoodScope n l → ValidWindow w n l → CleanWindow n listed w → Allocations n l listed (checkpointOf n w) out v → During n l listed v out
 running {n} {l} {listed} {w = w} z g c start = begins n l listed w g c
 running {n} {l} {listed} z g c (more b seen r t e) = goes-on n l listed seen z t b (running z g c r) e

@@ -1,4 +1,6 @@
 pub mod Circle
+pub mod Views
+pub mod Asking
 pub mod Has
 pub mod Marks
 pub mod Scan

@@ -4,11 +4,10 @@ use mathlib.Core.Bool.{Bool, true, false}
 use Prim.Native.Nat.{ℕ, zero, suc, _+_, _-_, _%_, _≤_, _<_}
 use native.Mathlib.Nat.{mod-lt}
 use native.Mathlib.Omega.{arith}
-use Rattle.window.specs.Marks.{offsetOf}
 use Rattle.window.proofs.Cases.{eqb-cases}
-use Rattle.windows.specs.Call.{Different}
-use Rattle.windows.specs.Space.{unless, unusedFrom}
-use Rattle.windows.proofs.Circle.{block-offset, same-place}
+use Rattle.windows.proofs.Views.{Different}
+use Rattle.windows.proofs.Asking.{unusedFrom, unlessUsed}
+use Rattle.windows.proofs.Circle.{block-offset, same-place, offsetFrom}
 use Rattle.windows.proofs.Has.{else-false, has-cases, has-head, has-none, has-tail}
 use Rattle.span.specs.Members.{has}
 
@@ -28,7 +27,7 @@ rest-place base n used (suc c) b h e = go (used ((base + (n - suc c)) % n)) refl
     wider : Place (n - c) → Place (n - suc c)
     wider r = (r .0, omega arith, r .2, r .3, r .4)
 
-    go : (t : Bool) → used x ≡ t → has (unless t x (unusedFrom base n used c)) b ≡ true → (has (unusedFrom base n used c) b ≡ true → Place (n - c)) → Place (n - suc c)
+    go : (t : Bool) → used x ≡ t → has (unlessUsed t x (unusedFrom base n used c)) b ≡ true → (has (unusedFrom base n used c) b ≡ true → Place (n - c)) → Place (n - suc c)
     go true q e ih = wider (ih e)
     go false q e ih = has-cases x (unusedFrom base n used c) b (Place (n - suc c)) e
         (λ s. (n - suc c, omega arith, omega arith, sym s, ap used (sym s) ∙ q))
@@ -40,7 +39,7 @@ unfolding unusedFrom
 rest-different base n used zero l h = Different.none
 rest-different base n used (suc c) l h = go (used ((base + (n - suc c)) % n)) (rest-different base n used c l (omega arith))
   where
-    go : (t : Bool) → Different (unusedFrom base n used c) → Different (unless t ((base + (n - suc c)) % n) (unusedFrom base n used c))
+    go : (t : Bool) → Different (unusedFrom base n used c) → Different (unlessUsed t ((base + (n - suc c)) % n) (unusedFrom base n used c))
     go true d = d
     go false d = Different.one (else-false _ (λ e.
         let r = rest-place base n used c ((base + (n - suc c)) % n) (omega arith) e in
@@ -54,18 +53,18 @@ rest-at base n used (suc c) k h a b e = eqb-cases k (n - suc c) (λ _. has (unus
     (λ q. here q)
     (λ q. there (used ((base + (n - suc c)) % n)) (rest-at base n used c k (omega arith) (omega arith) b e))
   where
-    here : k ≡ n - suc c → has (unless (used ((base + (n - suc c)) % n)) ((base + (n - suc c)) % n) (unusedFrom base n used c)) ((base + k) % n) ≡ true
+    here : k ≡ n - suc c → has (unlessUsed (used ((base + (n - suc c)) % n)) ((base + (n - suc c)) % n) (unusedFrom base n used c)) ((base + k) % n) ≡ true
     here q = rw (sym q, e) (has-head ((base + k) % n) (unusedFrom base n used c))
 
     there : (t : Bool) → has (unusedFrom base n used c) ((base + k) % n) ≡ true
-        → has (unless t ((base + (n - suc c)) % n) (unusedFrom base n used c)) ((base + k) % n) ≡ true
+        → has (unlessUsed t ((base + (n - suc c)) % n) (unusedFrom base n used c)) ((base + k) % n) ≡ true
     there true i = i
     there false i = has-tail _ _ _ i
 
 -- .. and each block of the card that is not used stands in it
 pub rest-all : (base n : ℕ) (used : ℕ → Bool) (b : ℕ) → base < n → b < n → used b ≡ false → has (unusedFrom base n used n) b ≡ true
 rest-all base n used b l h e =
-    let k = offsetOf base b n in
+    let k = offsetFrom base b n in
     let q : (base + k) % n ≡ b = block-offset n base b l h in
     let i : has (unusedFrom base n used n) ((base + k) % n) ≡ true =
     rest-at base n used n k (omega arith) (omega arith) (mod-lt _ (omega arith)) (ap used q ∙ e) in

@@ -9,15 +9,15 @@ use Rattle.window.specs.declared.Answer.the-variants as answer
 use Rattle.window.specs.declared.Lookahead.{Lookahead}
 use Rattle.window.specs.Allocate.{allocOf}
 use Rattle.window.specs.Scan.{Seen}
-use Rattle.window.specs.Value.{Sizes, Valid}
-use Rattle.windows.specs.Call.{cleanly, Clean, View, handed, full, bad, Tells}
+use Rattle.windows.proofs.Views.{cleanly, View, handed, full, bad, Tells, CleanWindow}
 use Rattle.windows.proofs.Alloc.{some-on, alloc-view}
 use Rattle.windows.proofs.Answers.{block-eq, not-block, not-damaged}
 use Rattle.span.specs.Members.{has}
+use Rattle.window.specs.inner.Facts.{ValidWindow, GoodScope, scope}
 
-module _ {n l : ℕ} {listed : List ℕ} {seen : Seen} {w : Lookahead} (z : Sizes n l) (g : Valid w n l) (c : Clean n listed w) (t : Tells n listed seen) where
+module _ {n l : ℕ} {listed : List ℕ} {seen : Seen} {w : Lookahead} (z : GoodScope n l) (g : ValidWindow w n l) (c : CleanWindow n listed w) (t : Tells n listed seen) where
   -- THEOREM. The block handed out is one of the card, and no file has it.
-  pub handed-out : {b : ℕ} → allocOf n l seen w .answer ≡ answer.Block b → (b < n) × (has listed b ≡ false)
+  pub handed-out : {b : ℕ} → allocOf (scope n l) seen w .answer ≡ answer.Block b → (b < n) × (has listed b ≡ false)
   handed-out {b} e =
       go (alloc-view (cleanly listed) _ n l seen z (t .low) (λ ok x. t .cover ok x) w g c (some-on n l w g) .view) e
     where

@@ -11,33 +11,34 @@ use Rattle.window.specs.declared.Answer.the-variants as answer
 use Rattle.window.specs.declared.Answer.{Answer}
 use Rattle.window.specs.declared.Lookahead.{Lookahead}
 use Rattle.window.specs.Allocate.{allocOf}
-use Rattle.window.specs.Marks.{marked, offsetOf}
-use Rattle.window.specs.Scan.{Seen}
-use Rattle.window.specs.Value.{Sizes, Valid, checkpointOf, freshOf}
+use Rattle.window.specs.Scan.{Seen, offsetIn}
+use Rattle.window.specs.Value.{checkpointOf, freshOf}
 use Rattle.window.proofs.Cases.{ltb-cases, no-both}
 use Rattle.window.proofs.Kept.{checkpoint-valid, fresh-valid}
-use Rattle.windows.specs.Call.{Clean, Lists, On, Shows, View, bad, exactly, full, handed, isBlock}
-use Rattle.windows.specs.Space.{Exactly, Knows, Spent, askOf, bit, goodIn, goodUnlisted, goodUnused, leftIn, markedIn, spare, unusedFrom, usedFor}
+use Rattle.windows.proofs.Views.{Lists, On, Shows, View, bad, exactly, full, handed, isBlock, CleanWindow}
+use Rattle.windows.proofs.Asking.{Knows, askOf, bit, goodIn, spare, unusedFrom, ExactCall, SpentWindow, goodUnlisted}
 use Rattle.windows.proofs.Answers.{block-eq, not-block, not-damaged, not-full}
 use Rattle.windows.proofs.Circle.{block-offset, offset-block}
 use Rattle.windows.proofs.Exact.{view, asked, full-none, good-cons, good-nil, handed-first, spent}
 use Rattle.windows.proofs.Has.{or-right}
 use Rattle.windows.proofs.Rotate.{tally-same, whole-circle}
-use Rattle.span.specs.Members.{has}
+use Rattle.span.specs.Members.{has, bitIn}
+use Rattle.window.specs.inner.Facts.{ValidWindow, GoodScope, scope}
+use Rattle.windows.specs.Space.{leftIn, usedFor, markedIn, goodUnused}
 
 -- ---- what is used, from a window
 
 -- the block at offset o, inside what is left and outside
-used-inside : (n : ℕ) (listed : List ℕ) (w : Lookahead) (b o : ℕ) → offsetOf (w .start) b n ≡ o → w .next ≤ o → o < w .size → marked (w .map) o ≡ usedFor n listed w b
+used-inside : (n : ℕ) (listed : List ℕ) (w : Lookahead) (b o : ℕ) → offsetIn n w b ≡ o → w .next ≤ o → o < w .size → bitIn (w .map) o ≡ usedFor n listed w b
 unfolding usedFor
-used-inside n listed w b o e lo hi = rw (usedFor, e, le-leb (w .next) o lo, lt-ltb o (w .size) hi) (ap (λ (x : ℕ). marked (w .map) x) (sym e))
+used-inside n listed w b o e lo hi = rw (usedFor, e, le-leb (w .next) o lo, lt-ltb o (w .size) hi) (ap (λ (x : ℕ). bitIn (w .map) x) (sym e))
 
 pub used-outside : (n : ℕ) (listed : List ℕ) (w : Lookahead) (b : ℕ) → leftIn n w b ≡ false → has listed b ≡ usedFor n listed w b
 unfolding usedFor
 used-outside n listed w b e = rw (usedFor, e)
 
 -- a place beyond what is left of a window is outside it
-beyond : (n l : ℕ) (w : Lookahead) (k : ℕ) → Valid w n l → w .size - w .next ≤ k → k < n → leftIn n w (((w .start + w .next) % n + k) % n) ≡ false
+beyond : (n l : ℕ) (w : Lookahead) (k : ℕ) → ValidWindow w n l → w .size - w .next ≤ k → k < n → leftIn n w (((w .start + w .next) % n + k) % n) ≡ false
 beyond n l w k g a b =
     let e : ((w .start + w .next) % n + k) % n ≡ (w .start + (w .next + k)) % n = mod-add-mod (w .start + w .next) n k ∙ ap (λ (x : ℕ). x % n) (omega arith) in
     rw e (ltb-cases (w .next + k) n (λ _. leftIn n w ((w .start + (w .next + k)) % n) ≡ false) near far)
@@ -52,7 +53,7 @@ beyond n l w k g a b =
         rw (e, offset-block n (w .start) o (g .start-lt) (omega (arith, g .next-le, g .size-le-n)), lt-leb (w .next) o (omega arith))
 
 -- THEOREM. A call from any valid window
-pub knows : (n l : ℕ) (listed : List ℕ) (w : Lookahead) → Valid w n l → Knows n l listed (usedFor n listed w) ((w .start + w .next) % n) (checkpointOf w n)
+pub knows : (n l : ℕ) (listed : List ℕ) (w : Lookahead) → ValidWindow w n l → Knows n l listed (usedFor n listed w) ((w .start + w .next) % n) (checkpointOf n w)
 knows n l listed w g =
     let e : w .start + w .next + (n - n) ≡ w .start + w .next = omega arith in
     record {
@@ -62,7 +63,7 @@ knows n l listed w g =
       later = λ k a b. used-outside n listed w _ (beyond n l w k g (omega arith) b);
     }
 
-pub exact-begins : (n l : ℕ) (listed : List ℕ) (w : Lookahead) → Valid w n l → Exactly n l listed (usedFor n listed w) (checkpointOf w n) []
+pub exact-begins : (n l : ℕ) (listed : List ℕ) (w : Lookahead) → ValidWindow w n l → ExactCall n l listed (usedFor n listed w) (checkpointOf n w) []
 exact-begins n l listed w g =
     let b-lt : (w .start + w .next) % n < n = mod-lt _ (omega (arith, g .start-lt)) in
     record {
@@ -73,42 +74,42 @@ exact-begins n l listed w g =
     }
 
 -- as many, where as much is used
-pub same-used : (good p q : ℕ → Bool) (n : ℕ) → ((b : ℕ) → b < n → p b ≡ q b) → goodUnused good p n ≡ goodUnused good q n
-same-used good p q n h = tally-same (spare good p) (spare good q) n 0 0 (λ i l. ap (λ (t : Bool). elim t [ true ↦ false | false ↦ good (0 + i) ]) (h (0 + i) (omega arith)))
+pub same-used : (good p q : ℕ → Bool) (n : ℕ) → ((b : ℕ) → b < n → p b ≡ q b) → goodUnused good n p ≡ goodUnused good n q
+same-used good p q n h = tally-same (spare good p) (spare good q) n (λ i l. ap (λ (t : Bool). elim t [ true ↦ false | false ↦ good i ]) (h i l))
 
 -- THEOREM. With nothing left of the window, what is used is what is listed, whatever its map.
 pub none-left : (n : ℕ) (listed : List ℕ) (w : Lookahead) → w .size ≤ w .next → (b : ℕ) → usedFor n listed w b ≡ has listed b
-none-left n listed w h b = sym (used-outside n listed w b (out (offsetOf (w .start) b n)))
+none-left n listed w h b = sym (used-outside n listed w b (out (offsetIn n w b)))
   where
     out : (o : ℕ) → (leb (w .next) o && ltb o (w .size)) ≡ false
     out o = ltb-cases o (w .size) (λ t. (leb (w .next) o && t) ≡ false) (λ a. rw (lt-leb (w .next) o (omega arith))) (λ a. and-false (leb (w .next) o))
 
 -- THEOREM. For a clean window, what is used is what is listed or marked in what is left of it.
-pub clean-used : (n l : ℕ) (listed : List ℕ) (w : Lookahead) → Valid w n l → Clean n listed w → (b : ℕ) → b < n → usedFor n listed w b ≡ (has listed b || markedIn n w b)
+pub clean-used : (n l : ℕ) (listed : List ℕ) (w : Lookahead) → ValidWindow w n l → CleanWindow n listed w → (b : ℕ) → b < n → usedFor n listed w b ≡ (has listed b || markedIn n w b)
 unfolding usedFor
-clean-used n l listed w g c b h = go (leftIn n w b) refl (marked (w .map) (offsetOf (w .start) b n)) refl
+clean-used n l listed w g c b h = go (leftIn n w b) refl (bitIn (w .map) (offsetIn n w b)) refl
   where
-    unmarked : leftIn n w b ≡ true → marked (w .map) (offsetOf (w .start) b n) ≡ false → has listed b ≡ false
+    unmarked : leftIn n w b ≡ true → bitIn (w .map) (offsetIn n w b) ≡ false → has listed b ≡ false
     unmarked e f =
-        let p = and-eq-true-iff (leb (w .next) (offsetOf (w .start) b n)) (ltb (offsetOf (w .start) b n) (w .size)) .0 e in
-        rw (block-offset n (w .start) b (g .start-lt) h) at (c (offsetOf (w .start) b n) (leb-true _ _ (p .0)) (ltb-true _ _ (p .1)) f)
+        let p = and-eq-true-iff (leb (w .next) (offsetIn n w b)) (ltb (offsetIn n w b) (w .size)) .0 e in
+        rw (block-offset n (w .start) b (g .start-lt) h) at (c (offsetIn n w b) (leb-true _ _ (p .0)) (ltb-true _ _ (p .1)) f)
 
-    go : (t : Bool) → leftIn n w b ≡ t → (m : Bool) → marked (w .map) (offsetOf (w .start) b n) ≡ m → usedFor n listed w b ≡ (has listed b || markedIn n w b)
+    go : (t : Bool) → leftIn n w b ≡ t → (m : Bool) → bitIn (w .map) (offsetIn n w b) ≡ m → usedFor n listed w b ≡ (has listed b || markedIn n w b)
     go false e m f = rw (usedFor, e) (sym (or-false (has listed b)))
     go true e true f = rw (usedFor, e, f) (sym (or-right (has listed b) true refl))
     go true e false f = rw (usedFor, e, f, unmarked e f)
 
 -- so each listed block is used
-pub listed-used : (n l : ℕ) (listed : List ℕ) (w : Lookahead) → Valid w n l → Clean n listed w → (b : ℕ) → b < n → has listed b ≡ true → usedFor n listed w b ≡ true
+pub listed-used : (n l : ℕ) (listed : List ℕ) (w : Lookahead) → ValidWindow w n l → CleanWindow n listed w → (b : ℕ) → b < n → has listed b ≡ true → usedFor n listed w b ≡ true
 listed-used n l listed w g c b h e = clean-used n l listed w g c b h ∙ ap (λ (t : Bool). (t || markedIn n w b)) e
 
-module _ (n l : ℕ) (listed : List ℕ) (used : ℕ → Bool) (seen : Seen) (z : Sizes n l) (t : Shows n listed seen) where
-  pub exact-goes : {w : Lookahead} {out : List ℕ} (b : ℕ) → Exactly n l listed used w out → allocOf n l seen w .answer ≡ answer.Block b
-      → Exactly n l listed used (allocOf n l seen w .window) (b ∷ out)
+module _ (n l : ℕ) (listed : List ℕ) (used : ℕ → Bool) (seen : Seen) (z : GoodScope n l) (t : Shows n listed seen) where
+  pub exact-goes : {w : Lookahead} {out : List ℕ} (b : ℕ) → ExactCall n l listed used w out → allocOf (scope n l) seen w .answer ≡ answer.Block b
+      → ExactCall n l listed used (allocOf (scope n l) seen w .window) (b ∷ out)
   exact-goes {w} {out} b s e = let r = view n l listed used seen z t (s .base) w (s .knows) in go (r .0) (r .1 (ap isBlock e)) e
     where
       go : {q : Answer} {v : Lookahead} → View (exactly used) (s .base) n (seen .ok) (w .ckpoint) q v → (On (s .base) n v → Knows n l listed used (s .base) v) → q ≡ answer.Block b
-          → Exactly n l listed used v (b ∷ out)
+          → ExactCall n l listed used v (b ∷ out)
       go {v = v} (handed {b = b′} h o) kv e =
           let same : b′ ≡ b = block-eq b′ b e in
           record {
@@ -125,11 +126,11 @@ module _ (n l : ℕ) (listed : List ℕ) (used : ℕ → Bool) (seen : Seen) (z 
       go (bad _ _ _) kv e = absurd (not-damaged b ⊥ e)
 
   -- THEOREM. At -28 all the good blocks of the card that were not used were handed out, whichever are good.
-  pub exact-full : {w : Lookahead} {out : List ℕ} (good : ℕ → Bool) → Exactly n l listed used w out → allocOf n l seen w .answer ≡ answer.NoSpace
-      → goodUnused good used n ≡ goodIn good out
+  pub exact-full : {w : Lookahead} {out : List ℕ} (good : ℕ → Bool) → ExactCall n l listed used w out → allocOf (scope n l) seen w .answer ≡ answer.NoSpace
+      → goodUnused good n used ≡ goodIn good out
   exact-full {w} {out} good s e = go (view n l listed used seen z t (s .base) w (s .knows) .0) e
     where
-      go : {q : Answer} {v : Lookahead} → View (exactly used) (s .base) n (seen .ok) (w .ckpoint) q v → q ≡ answer.NoSpace → goodUnused good used n ≡ goodIn good out
+      go : {q : Answer} {v : Lookahead} → View (exactly used) (s .base) n (seen .ok) (w .ckpoint) q v → q ≡ answer.NoSpace → goodUnused good n used ≡ goodIn good out
       go (handed {b = b} h o) e = absurd (not-full b ⊥ e)
       go (full c p o) e =
           let i : goodIn good (unusedFrom (s .base) n used (w .ckpoint)) ≡ 0 =
@@ -138,7 +139,7 @@ module _ (n l : ℕ) (listed : List ℕ) (used : ℕ → Bool) (seen : Seen) (z 
       go (bad _ _ _) e = let y : _≡_ {A = ℕ} 0 1 = cc in absurd (omega arith)
 
   -- where no visit fails, no allocation is -84
-  pub never-damaged : {w : Lookahead} {out : List ℕ} → seen .ok ≡ true → Exactly n l listed used w out → allocOf n l seen w .answer ≡ answer.Damaged → ⊥
+  pub never-damaged : {w : Lookahead} {out : List ℕ} → seen .ok ≡ true → ExactCall n l listed used w out → allocOf (scope n l) seen w .answer ≡ answer.Damaged → ⊥
   never-damaged {w} ok s e = go (view n l listed used seen z t (s .base) w (s .knows) .0) e
     where
       go : {q : Answer} {v : Lookahead} → View (exactly used) (s .base) n (seen .ok) (w .ckpoint) q v → q ≡ answer.Damaged → ⊥
@@ -147,33 +148,33 @@ module _ (n l : ℕ) (listed : List ℕ) (used : ℕ → Bool) (seen : Seen) (z 
       go (bad f _ _) e = no-both (seen .ok) ok f
 
   -- and no more are handed out than there are
-  pub exact-most : {w : Lookahead} {out : List ℕ} (good : ℕ → Bool) → Exactly n l listed used w out → goodIn good out ≤ goodUnused good used n
+  pub exact-most : {w : Lookahead} {out : List ℕ} (good : ℕ → Bool) → ExactCall n l listed used w out → goodIn good out ≤ goodUnused good n used
   exact-most good s = omega (arith, s .all good)
 
-module _ (n l : ℕ) (listed : List ℕ) (seen : Seen) (z : Sizes n l) (t : Lists n listed seen) where
+module _ (n l : ℕ) (listed : List ℕ) (seen : Seen) (z : GoodScope n l) (t : Lists n listed seen) where
   -- THEOREM. From any valid window: exactly the blocks that are not used, in circular order from where it stands, each once, then -28.
-  pub any-spent : (w : Lookahead) → Valid w n l
-      → (v : Lookahead) × Spent n l seen (checkpointOf w n) (unusedFrom ((w .start + w .next) % n) n (usedFor n listed w) n) v
-  any-spent w g = spent n l listed (usedFor n listed w) seen z t (suc n) ((w .start + w .next) % n) (checkpointOf w n) (omega arith) (knows n l listed w g)
+  pub any-spent : (w : Lookahead) → ValidWindow w n l
+      → (v : Lookahead) × SpentWindow n l seen (checkpointOf n w) (unusedFrom ((w .start + w .next) % n) n (usedFor n listed w) n) v
+  any-spent w g = spent n l listed (usedFor n listed w) seen z t (suc n) ((w .start + w .next) % n) (checkpointOf n w) (omega arith) (knows n l listed w g)
 
   -- THEOREM. From any valid window, asking until m good ones were handed out fails exactly if fewer than m good blocks are not used.
-  pub any-asked : (w : Lookahead) (good : ℕ → Bool) (m : ℕ) → Valid w n l → askOf (suc n) good n l seen m (checkpointOf w n) ≡ leb m (goodUnused good (usedFor n listed w) n)
+  pub any-asked : (w : Lookahead) (good : ℕ → Bool) (m : ℕ) → ValidWindow w n l → askOf (suc n) good n l seen m (checkpointOf n w) ≡ leb m (goodUnused good n (usedFor n listed w))
   any-asked w good m g =
-      asked n l listed (usedFor n listed w) seen z t (suc n) ((w .start + w .next) % n) good m (checkpointOf w n) (omega arith) (knows n l listed w g)
+      asked n l listed (usedFor n listed w) seen z t (suc n) ((w .start + w .next) % n) good m (checkpointOf n w) (omega arith) (knows n l listed w g)
       ∙ ap (λ (x : ℕ). leb m x) (whole-circle good ((w .start + w .next) % n) n (usedFor n listed w) (mod-lt _ (omega (arith, g .start-lt))))
 
-  fresh-on : (s : ℕ) → On s n (freshOf s n)
+  fresh-on : (s : ℕ) → On s n (freshOf (scope n l) s)
   fresh-on s = let e : s + 0 ≡ s + (n - n) = omega arith in ap (λ (x : ℕ). x % n) e
 
-  fresh-knows : (s : ℕ) → s < n → Knows n l listed (has listed) s (freshOf s n)
+  fresh-knows : (s : ℕ) → s < n → Knows n l listed (has listed) s (freshOf (scope n l) s)
   fresh-knows s h = record { valid = fresh-valid n l s h; says = λ o a b. absurd (omega arith); on = fresh-on s; later = λ k a b. refl }
 
   -- THEOREM. From a fresh window: exactly the unlisted blocks in circular order from start, then -28.
-  pub fresh-spent : (s : ℕ) → s < n → (v : Lookahead) × Spent n l seen (freshOf s n) (unusedFrom s n (has listed) n) v
-  fresh-spent s h = spent n l listed (has listed) seen z t (suc n) s (freshOf s n) (omega arith) (fresh-knows s h)
+  pub fresh-spent : (s : ℕ) → s < n → (v : Lookahead) × SpentWindow n l seen (freshOf (scope n l) s) (unusedFrom s n (has listed) n) v
+  fresh-spent s h = spent n l listed (has listed) seen z t (suc n) s (freshOf (scope n l) s) (omega arith) (fresh-knows s h)
 
   -- THEOREM. From a fresh window, asking until m good ones were handed out fails exactly if fewer than m good unlisted blocks exist.
-  pub fresh-asked : (s : ℕ) (good : ℕ → Bool) (m : ℕ) → s < n → askOf (suc n) good n l seen m (freshOf s n) ≡ leb m (goodUnlisted good listed n)
+  pub fresh-asked : (s : ℕ) (good : ℕ → Bool) (m : ℕ) → s < n → askOf (suc n) good n l seen m (freshOf (scope n l) s) ≡ leb m (goodUnlisted good n listed)
   fresh-asked s good m h =
-      asked n l listed (has listed) seen z t (suc n) s good m (freshOf s n) (omega arith) (fresh-knows s h)
+      asked n l listed (has listed) seen z t (suc n) s good m (freshOf (scope n l) s) (omega arith) (fresh-knows s h)
       ∙ ap (λ (x : ℕ). leb m x) (whole-circle good s n (has listed) h)

@@ -1,3 +1,2 @@
 -- The words in which the theorems about windows are stated.
-pub mod Call
 pub mod Space

@@ -1,112 +1,29 @@
--- What is left to hand out: the blocks that are not used, in circular order, and how many of them are good.
-use Prim.Native.Nat.{ℕ, zero, suc, _+_, _-_, _%_, _≤_, _<_}
-use mathlib.Core.Path.{_≡_}
+-- What a call finds used, and how many good blocks it does not find used (01, "The window").
 use mathlib.Core.Bool.{Bool, true, false, _&&_}
-use mathlib.Core.List.{List, [], _∷_}
+use mathlib.Core.List.{List}
+use Prim.Native.Nat.{ℕ, zero, suc}
 use lib.Dec.{leb, ltb}
-use Rattle.window.specs.declared.Answer.the-variants as answer
-use Rattle.window.specs.declared.Answer.{Answer}
+use Rattle.span.specs.Members.{has, bitIn}
 use Rattle.window.specs.declared.Lookahead.{Lookahead}
-use Rattle.window.specs.Allocate.{allocOf}
-use Rattle.window.specs.Marks.{marked, offsetOf}
-use Rattle.window.specs.Scan.{Seen}
-use Rattle.window.specs.Value.{Valid}
-use Rattle.windows.specs.Call.{Lists, On, Says, exactly}
-use Rattle.span.specs.Members.{has}
-
-abbrev pub unless : Bool → ℕ → List ℕ → List ℕ
-unless true b bs = bs
-unless false b bs = b ∷ bs
+use Rattle.window.specs.Scan.{offsetIn}
 
 -- block b lies in what is left of a window
 abbrev pub leftIn : ℕ → Lookahead → ℕ → Bool
-leftIn n w b = leb (w .next) (offsetOf (w .start) b n) && ltb (offsetOf (w .start) b n) (w .size)
+leftIn N w b = leb (w .next) (offsetIn N w b) && ltb (offsetIn N w b) (w .size)
+
+-- and is marked there
+abbrev pub markedIn : ℕ → Lookahead → ℕ → Bool
+markedIn N w b = leftIn N w b && bitIn (w .map) (offsetIn N w b)
 
 -- What a call from window w finds used: in what is left of the window the marked blocks, and outside it the listed ones.
 unfoldable pub usedFor : ℕ → List ℕ → Lookahead → ℕ → Bool
-usedFor n listed w b = elim (leftIn n w b) [ true ↦ marked (w .map) (offsetOf (w .start) b n) | false ↦ has listed b ]
+usedFor N listed w b = elim (leftIn N w b) [ true ↦ bitIn (w .map) (offsetIn N w b) | false ↦ has listed b ]
 
--- a block that lies in what is left of the window and is marked there
-abbrev pub markedIn : ℕ → Lookahead → ℕ → Bool
-markedIn n w b = leftIn n w b && marked (w .map) (offsetOf (w .start) b n)
+-- of how many numbers below n a test says true
+unfoldable pub tally : (ℕ → Bool) → ℕ → ℕ
+tally p zero = 0
+tally p (suc n) = elim (p n) [ true ↦ suc (tally p n) | false ↦ tally p n ]
 
--- those of the last c blocks of the circle that starts at base which are not used: at the places n - c up to n
-unfoldable pub unusedFrom : ℕ → ℕ → (ℕ → Bool) → ℕ → List ℕ
-unusedFrom base n used zero = []
-unusedFrom base n used (suc c) = unless (used ((base + (n - suc c)) % n)) ((base + (n - suc c)) % n) (unusedFrom base n used c)
-
-abbrev pub bit : Bool → ℕ
-bit true = 1
-bit false = 0
-
--- how many of a list are good
-unfoldable pub goodIn : (ℕ → Bool) → List ℕ → ℕ
-goodIn good [] = 0
-goodIn good (b ∷ bs) = bit (good b) + goodIn good bs
-
-abbrev pub spare : (ℕ → Bool) → (ℕ → Bool) → ℕ → Bool
-spare good used b = elim (used b) [ true ↦ false | false ↦ good b ]
-
--- how many blocks from a on, k of them, have p
-unfoldable pub tally : (ℕ → Bool) → ℕ → ℕ → ℕ
-tally p a zero = 0
-tally p a (suc k) = bit (p a) + tally p (suc a) k
-
--- how many good blocks the card of n blocks has that are not used
-abbrev pub goodUnused : (ℕ → Bool) → (ℕ → Bool) → ℕ → ℕ
-goodUnused good used n = tally (spare good used) 0 n
-
--- and that are not listed
-abbrev pub goodUnlisted : (ℕ → Bool) → List ℕ → ℕ → ℕ
-goodUnlisted good listed n = goodUnused good (has listed) n
-
--- allocation asked again and again until it answers -28: the blocks handed out, in order
-pub data Spent (n l : ℕ) (seen : Seen) : Lookahead → List ℕ → Lookahead → Type 0 where
-  last : {w : Lookahead} → allocOf n l seen w .answer ≡ answer.NoSpace → Spent n l seen w [] (allocOf n l seen w .window)
-  more : {w v : Lookahead} {bs : List ℕ} (b : ℕ) → allocOf n l seen w .answer ≡ answer.Block b → Spent n l seen (allocOf n l seen w .window) bs v → Spent n l seen w (b ∷ bs) v
-
-abbrev pub enough : ℕ → Bool → Bool
-enough zero t = true
-enough (suc m) t = t
-
-abbrev pub onAnswer : Answer → (ℕ → Bool) → Bool
-onAnswer (answer.Block b) f = f b
-onAnswer answer.NoSpace f = false
-onAnswer answer.Damaged f = false
-onAnswer answer.Refused f = false
-
--- allocation asked until m good blocks were handed out (true), or it answers a number below 0 (false); at most f times
-unfoldable pub askOf : ℕ → (ℕ → Bool) → ℕ → ℕ → Seen → ℕ → Lookahead → Bool
-askOf zero good n l seen m w = false
-askOf (suc f) good n l seen m w =
-    enough m (onAnswer (allocOf n l seen w .answer) (λ b. askOf f good n l seen (m - bit (good b)) (allocOf n l seen w .window)))
-
--- On the circle of base, the marks of window w say what is used, and beyond what is left of it that is what is listed.
-pub record Knows (n l : ℕ) (listed : List ℕ) (used : ℕ → Bool) (base : ℕ) (w : Lookahead) : Type 0 where
-  pub valid : Valid w n l
-  pub says : Says (exactly used) n w
-  pub on : On base n w
-  pub later : (k : ℕ) → n - w .ckpoint + (w .size - w .next) ≤ k → k < n → has listed ((base + k) % n) ≡ used ((base + k) % n)
-
--- WITHIN ONE CALL, from any window: the blocks `out` were handed out, the last first. `all` holds for every choice of the good ones.
-pub record Exactly (n l : ℕ) (listed : List ℕ) (used : ℕ → Bool) (w : Lookahead) (out : List ℕ) : Type 1 where
-  pub base : ℕ
-  pub base-lt : base < n
-  pub knows : Knows n l listed used base w
-  pub all : (good : ℕ → Bool) → goodUnused good used n ≡ goodIn good out + goodIn good (unusedFrom base n used (w .ckpoint))
-
--- a list in order onto one that has the last first
-abbrev pub onto : List ℕ → List ℕ → List ℕ
-onto [] out = out
-onto (b ∷ bs) out = onto bs (b ∷ out)
-
--- Blocks are asked for until m good ones came (true) or the answer is -28 (false): what a write does, growth by growth, whatever it does between the
--- allocations, as long as the visits hand over what they did. The blocks handed out stand in order.
-pub data Needs (n l : ℕ) (listed : List ℕ) (good : ℕ → Bool) : ℕ → Lookahead → List ℕ → Lookahead → Bool → Type 0 where
-  done : {w : Lookahead} → Needs n l listed good 0 w [] w true
-  good-one : {m : ℕ} {w v : Lookahead} {out : List ℕ} {r : Bool} (b : ℕ) (seen : Seen) → Lists n listed seen → allocOf n l seen w .answer ≡ answer.Block b → good b ≡ true
-      → Needs n l listed good m (allocOf n l seen w .window) out v r → Needs n l listed good (suc m) w (b ∷ out) v r
-  bad-one : {m : ℕ} {w v : Lookahead} {out : List ℕ} {r : Bool} (b : ℕ) (seen : Seen) → Lists n listed seen → allocOf n l seen w .answer ≡ answer.Block b → good b ≡ false
-      → Needs n l listed good (suc m) (allocOf n l seen w .window) out v r → Needs n l listed good (suc m) w (b ∷ out) v r
-  no-space : {m : ℕ} {w : Lookahead} (seen : Seen) → Lists n listed seen → allocOf n l seen w .answer ≡ answer.NoSpace
-      → Needs n l listed good (suc m) w [] (allocOf n l seen w .window) false
+-- how many good blocks a card of N blocks has that are not used
+abbrev pub goodUnused : (ℕ → Bool) → ℕ → (ℕ → Bool) → ℕ
+goodUnused good N used = tally (λ b. elim (used b) [ true ↦ false | false ↦ good b ]) N

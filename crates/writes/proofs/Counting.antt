@@ -9,16 +9,17 @@ use borrow.Author.Tests.{ltb-true, ltb-false, lt-ltb, le-ltb}
 use lib.Dec.{ltb}
 use lib.ListN.{length}
 use Rattle.layout.specs.Layout.{indexAt, offsetAt}
-use Rattle.card.specs.Card.{Card}
 use Rattle.device.specs.Device.{refusesProgram}
-use Rattle.grow.specs.Supply.{Took}
-use Rattle.grow.specs.Grow.{GrowOut, part, growOf}
-use Rattle.store.specs.Write.{Job, new, kept, over, Written, NoRoom, Corrupt, WriteOut, fronted, tailed, filledOf, grownOf, writeOf, looked, wanted, firstHead, putOf, Look, Found, Lost}
-use Rattle.writes.specs.Allocator.{Counter}
-use Rattle.writes.specs.Plain.{need}
+use Rattle.store.specs.Write.{Job, new, kept, over, looked, wanted, firstHead, Look, Found, Lost}
 use Rattle.writes.proofs.Fills.{front-card, front-others}
-use Rattle.writes.proofs.Widths.{share, room, needs}
+use Rattle.writes.proofs.Widths.{share, room, needs, need}
 use Rattle.writes.proofs.Counts.{Only, part-short, store-only, both, Grew, hurt, none, gets, grew}
+use Rattle.writes.proofs.Allocators.{Counter}
+use Rattle.trials.specs.Loop.{Took, Written, NoRoom, Corrupt, WriteOut}
+use Rattle.grow.specs.Extend.{GrowOut}
+use Rattle.grow.specs.inner.Grow.{part, growOf}
+use Rattle.store.specs.inner.Write.{fronted, tailed, filledOf, grownOf, writeOf, putOf}
+use Rattle.card.specs.inner.Cards.{CardFacts}
 
 no-need : (B : ℕ) (j : Job) (s : ℕ) → new j ≤ s → need B j s ≡ 0
 unfolding need
@@ -30,13 +31,13 @@ unfolding need
 some-need B j s h = rw (need, lt-ltb s (new j) h)
 
 -- the tail goes into block k alone
-tail-only : (B N k off s n ob e : ℕ) (img : List ℕ) → Card B N (length img) → off + n ≤ B → e - s < n → Only B N k img (tailed B k off s n ob e img)
+tail-only : (B N k off s n ob e : ℕ) (img : List ℕ) → CardFacts B N (length img) → off + n ≤ B → e - s < n → Only B N k img (tailed B k off s n ob e img)
 unfolding tailed
 tail-only B N k off s n ob e img c r l =
     store-only B N k (off + (e - s)) (part B ob (off + (e - s)) (n - (e - s)) img) img c (omega (arith, part-short B ob (off + (e - s)) (n - (e - s)) img))
 
 -- a block is filled and the write goes on, or the old block of the tail is not found
-fills : {W : Type 0} (look : List ℕ → ℕ → Look) (B N : ℕ) (j : Job) (k off s n : ℕ) (img : List ℕ) (ks : W) (go : List ℕ → WriteOut W) → Card B N (length img) → k < N → off + n ≤ B
+fills : {W : Type 0} (look : List ℕ → ℕ → Look) (B N : ℕ) (j : Job) (k off s n : ℕ) (img : List ℕ) (ks : W) (go : List ℕ → WriteOut W) → CardFacts B N (length img) → k < N → off + n ≤ B
     → ((img′ : List ℕ) × Only B N k img img′ × (filledOf look B j k off s n (fronted B k off s n (j .pos) (j .src) img) ks go ≡ go img′))
     ⊎ (filledOf look B j k off s n (fronted B k off s n (j .pos) (j .src) img) ks go .answer ≡ Corrupt)
 unfolding filledOf
@@ -78,13 +79,13 @@ module _ {W : Type 0} (look : List ℕ → ℕ → Look) (B N : ℕ) (health : L
   turn a m w w₁ s s₁ o n g l (done h z e c) = done h z e (omega arith)
   turn a m w w₁ s s₁ o n g l (full e c) = full e (λ z. let y = c (omega arith) in (omega arith, y .1))
 
-  counting : (m : ℕ) (w : W) (img : List ℕ) (h s : ℕ) → Card B N (length img) → Ok w img → Counted m w s (writeOf look tries alloc m health B N j w h s img)
+  counting : (m : ℕ) (w : W) (img : List ℕ) (h s : ℕ) → CardFacts B N (length img) → Ok w img → Counted m w s (writeOf look tries alloc m health B N j w h s img)
   unfolding writeOf grownOf
   counting zero w img h s c ok = full refl (λ z. absurd (omega arith))
   counting (suc m) w img h s c ok = step (ltb s (new j)) refl (counting m)
     where
       step : (x : Bool) → ltb s (new j) ≡ x
-          → ((w₁ : W) (img₁ : List ℕ) (h₁ s₁ : ℕ) → Card B N (length img₁) → Ok w₁ img₁ → Counted m w₁ s₁ (writeOf look tries alloc m health B N j w₁ h₁ s₁ img₁))
+          → ((w₁ : W) (img₁ : List ℕ) (h₁ s₁ : ℕ) → CardFacts B N (length img₁) → Ok w₁ img₁ → Counted m w₁ s₁ (writeOf look tries alloc m health B N j w₁ h₁ s₁ img₁))
           → Counted (suc m) w s (writeOf look tries alloc (suc m) health B N j w h s img)
       step false e ih = rw (writeOf, e) (done h s refl (rw (no-need B j s (ltb-false s (new j) e)) (omega arith)))
       step true e ih = grown (grew B N health tries alloc L Ok goods End al h s (omega (arith, ltb-true s (new j) e)) (suc (tries w)) w img c ok)
@@ -123,10 +124,10 @@ module _ {W : Type 0} (look : List ℕ → ℕ → Look) (B N : ℕ) (health : L
                   (g .card) (g .low) (room B (c .sized) (new j) s lt fits))
 
   -- THE COUNT. A write of at least one byte, on any list and with any lookup.
-  pub counted : (w : W) (img : List ℕ) → Card B N (length img) → Ok w img → Counted (suc (tries w)) w (kept j) (putOf look tries alloc health B N j w img)
+  pub counted : (w : W) (img : List ℕ) → CardFacts B N (length img) → Ok w img → Counted (suc (tries w)) w (kept j) (putOf look tries alloc health B N j w img)
   unfolding putOf
-  counted w img c ok = go (looked look img (wanted B j)) refl
+  counted w img c ok = go (looked (look img) (wanted B j)) refl
     where
-      go : (t : Bool) → looked look img (wanted B j) ≡ t → Counted (suc (tries w)) w (kept j) (putOf look tries alloc health B N j w img)
+      go : (t : Bool) → looked (look img) (wanted B j) ≡ t → Counted (suc (tries w)) w (kept j) (putOf look tries alloc health B N j w img)
       go false e = rw (putOf, e) (corrupt refl)
-      go true e = rw (putOf, e) (counting (suc (tries w)) w img (firstHead look img (kept j)) (kept j) c ok)
+      go true e = rw (putOf, e) (counting (suc (tries w)) w img (firstHead (look img) (kept j)) (kept j) c ok)

@@ -11,25 +11,27 @@ use lib.Dec.{ltb}
 use lib.ListN.{length, drop, length-take}
 use Rattle.span.specs.Words.{bytes32}
 use Rattle.span.proofs.Words.{length-bytes32}
-use Rattle.layout.specs.Layout.{pointers, start, InBlock, indexAt, offsetAt}
+use Rattle.layout.specs.Layout.{pointers, start, indexAt, offsetAt}
 use Rattle.layout.proofs.Laws.{pointers-zero}
 use Rattle.layout.proofs.Places.{offset-inside, offset-of, next-place, Same, Next}
-use Rattle.card.specs.Blocks.{pointer}
-use Rattle.card.specs.Card.{Card}
 use Rattle.device.specs.Device.{stored, wiped, refusesErase, refusesProgram}
 use Rattle.grow.specs.declared.Growth.the-variants.{Grown, Full, Damaged}
-use Rattle.grow.specs.Supply.{Took, Block, None, Bad}
-use Rattle.grow.specs.Grow.{GrowOut, part, pointersOf, linkOf, spoils, growOf}
-use Rattle.writes.specs.Cells.{cell}
-use Rattle.writes.specs.Allocator.{Drawn, Counter}
-use Rattle.writes.proofs.Cells.{stored-card, stored-other}
+use Rattle.writes.proofs.Cells.{stored-card, stored-other, cell}
 use Rattle.writes.proofs.Index.{in-block, roomy}
 use Rattle.writes.proofs.Grows.{wiped-card, wiped-other}
 use Rattle.writes.proofs.Links.{at-zero}
+use Rattle.writes.proofs.Allocators.{Drawn, Counter}
+use Rattle.trials.specs.Loop.{Took, Block, None, Bad}
+use Rattle.grow.specs.Extend.{GrowOut}
+use Rattle.grow.specs.inner.Grow.{part, pointersOf, linkOf, spoils, growOf}
+use Rattle.layout.proofs.InBlock.{InBlock}
+use Rattle.card.specs.inner.Cards.{CardFacts}
+use Rattle.card.specs.Card.{pointer}
+use Rattle.device.specs.inner.Bounds.{spot}
 
 -- only block k of the card changes
 pub record Only (B N k : ℕ) (img img′ : List ℕ) : Type 0 where
-  pub card : Card B N (length img′)
+  pub card : CardFacts B N (length img′)
   pub others : (k′ o′ : ℕ) → k ≢ k′ → o′ < B → cell B img′ k′ o′ ≡ cell B img k′ o′
 
 pub part-short : (B f o n : ℕ) (img : List ℕ) → length (part B f o n img) ≤ n
@@ -37,10 +39,10 @@ unfolding part
 part-short B f o n img = rw (length-take n (drop (f * B + o) img)) (omega arith)
 
 module _ (B N k : ℕ) where
-  none-of : (img : List ℕ) → Card B N (length img) → Only B N k img img
+  none-of : (img : List ℕ) → CardFacts B N (length img) → Only B N k img img
   none-of img c = record { card = c; others = λ k′ o′ ne l. refl }
 
-  pub store-only : (o : ℕ) (vs img : List ℕ) → Card B N (length img) → o + length vs ≤ B → Only B N k img (stored B k o vs img)
+  pub store-only : (o : ℕ) (vs img : List ℕ) → CardFacts B N (length img) → o + length vs ≤ B → Only B N k img (stored B img (spot k o) vs)
   store-only o vs img c r = record { card = stored-card B k o vs img N c; others = stored-other B k o vs img r }
 
   pub both : {img img₁ img₂ : List ℕ} → Only B N k img img₁ → Only B N k img₁ img₂ → Only B N k img img₂
@@ -55,22 +57,22 @@ record Tried {W : Type 0} (B N : ℕ) (ks : W) (img : List ℕ) (k off : ℕ) (o
   answer : (o .answer ≡ Grown k off) ⊎ (o .answer ≡ Damaged)
 
 module _ {W : Type 0} (B N : ℕ) (ks : W) (k : ℕ) where
-  points : (m off x cur : ℕ) (img : List ℕ) → Card B N (length img) → 4 * (x + m) ≤ B → Tried B N ks img k off (pointersOf m B N k off x cur img ks)
+  points : (m off x cur : ℕ) (img : List ℕ) → CardFacts B N (length img) → 4 * (x + m) ≤ B → Tried B N ks img k off (pointersOf m B N k off x cur img ks)
   unfolding pointersOf
   points zero off x cur img c r = record { only = none-of B N k img c; rest = refl; answer = inl refl }
   points (suc m) off x cur img c r = go (ltb cur N) refl (points m off (suc x))
     where
       go : (t : Bool) → ltb cur N ≡ t
-          → ((cur : ℕ) (img : List ℕ) → Card B N (length img) → 4 * (suc x + m) ≤ B → Tried B N ks img k off (pointersOf m B N k off (suc x) cur img ks))
+          → ((cur : ℕ) (img : List ℕ) → CardFacts B N (length img) → 4 * (suc x + m) ≤ B → Tried B N ks img k off (pointersOf m B N k off (suc x) cur img ks))
           → Tried B N ks img k off (pointersOf (suc m) B N k off x cur img ks)
       go false e ih = rw (pointersOf, e) (record { only = none-of B N k img c; rest = refl; answer = inr refl })
       go true e ih =
-          let img₁ = stored B k (4 * x) (bytes32 cur) img in
+          let img₁ = stored B img (spot k (4 * x)) (bytes32 cur) in
           let a = store-only B N k (4 * x) (bytes32 cur) img c (omega (arith, length-bytes32 cur)) in
-          let t = ih (pointer img₁ B cur x) img₁ (a .card) (omega (arith, suc-add x m, add-suc x m)) in
+          let t = ih (pointer B img₁ cur x) img₁ (a .card) (omega (arith, suc-add x m, add-suc x m)) in
           rw (pointersOf, e) (record { only = both B N k a (t .only); rest = t .rest; answer = t .answer })
 
-  links : (head : ℕ) (img : List ℕ) → Card B N (length img) → (s : ℕ) → s < 2 ^ 32 → Tried B N ks img k (offsetAt B s) (linkOf B N k head s img ks)
+  links : (head : ℕ) (img : List ℕ) → CardFacts B N (length img) → (s : ℕ) → s < 2 ^ 32 → Tried B N ks img k (offsetAt B s) (linkOf B N k head s img ks)
   unfolding linkOf
   links head img c zero l =
       record { only = none-of B N k img c; rest = refl; answer = inl (ap (Grown k) (sym (offset-of B 0 0 (at-zero B) ∙ omega (arith, pointers-zero)))) }
@@ -112,7 +114,7 @@ module _ {W : Type 0} (B N : ℕ) (health : List ℕ) (tries : W → ℕ) (alloc
     pub answer : o .answer ≡ Grown k (offsetAt B s)
     pub low : k < N
     pub mine : (k′ : ℕ) → L k′ → k ≢ k′
-    pub card : Card B N (length (o .image))
+    pub card : CardFacts B N (length (o .image))
     pub ok : Ok (o .rest) (o .image)
     pub fewer : tries (o .rest) < tries w
     pub good : refusesProgram health k ≡ false → goods w ≡ suc (goods (o .rest))
@@ -142,13 +144,13 @@ module _ {W : Type 0} (B N : ℕ) (health : List ℕ) (tries : W → ℕ) (alloc
       })
 
   module _ (head s : ℕ) (short : s < 2 ^ 32) where
-    pub grew : (m : ℕ) (w : W) (img : List ℕ) → Card B N (length img) → Ok w img → Grew m w s (growOf alloc m w health B N head s img)
+    pub grew : (m : ℕ) (w : W) (img : List ℕ) → CardFacts B N (length img) → Ok w img → Grew m w s (growOf alloc m w health B N head s img)
     unfolding growOf
     grew zero w img c ok = none refl (λ l. absurd (omega arith))
     grew (suc m) w img c ok = by (alloc w img) refl (grew m)
       where
         by : (a : Took W) → alloc w img ≡ a
-            → ((w : W) (img : List ℕ) → Card B N (length img) → Ok w img → Grew m w s (growOf alloc m w health B N head s img))
+            → ((w : W) (img : List ℕ) → CardFacts B N (length img) → Ok w img → Grew m w s (growOf alloc m w health B N head s img))
             → Grew (suc m) w s (growOf alloc (suc m) w health B N head s img)
         by (None w′) e ih = rw (growOf, e) (none refl (λ l. al .none w w′ img ok e))
         by (Bad w′) e ih = rw (growOf, e) (hurt refl)
@@ -157,14 +159,14 @@ module _ {W : Type 0} (B N : ℕ) (health : List ℕ) (tries : W → ℕ) (alloc
             tk : Drawn N health tries L Ok goods w w′ img k
             tk = al .taken w w′ img k ok e
 
-            wo : Only B N k img (wiped B k img)
+            wo : Only B N k img (wiped B img k)
             wo = record { card = wiped-card B k img N c; others = wiped-other B k img }
 
             -- an image on which only block k changed
             moved : (img′ : List ℕ) → Only B N k img img′ → Ok w′ img′
             moved img′ a = al .frame w′ img img′ (tk .ok) (a .card) (λ k′ o′ u l. a .others k′ o′ (tk .new k′ u) l)
 
-            last : refusesErase health k ≡ false → (o : GrowOut W) → Tried B N w′ (wiped B k img) k (offsetAt B s) o → Grew (suc m) w s o
+            last : refusesErase health k ≡ false → (o : GrowOut W) → Tried B N w′ (wiped B img k) k (offsetAt B s) o → Grew (suc m) w s o
             last q o t = end (t .answer)
               where
                 end : (o .answer ≡ Grown k (offsetAt B s)) ⊎ (o .answer ≡ Damaged) → Grew (suc m) w s o
@@ -177,14 +179,14 @@ module _ {W : Type 0} (B N : ℕ) (health : List ℕ) (tries : W → ℕ) (alloc
                       card = t .only .card;
                       ok = rw (t .rest) (moved (o .image) (both B N k wo (t .only)));
                       fewer = rw (t .rest) (tk .fewer);
-                      good = λ y. rw (t .rest) (rw (q, y) at (tk .count));
-                      spoilt = λ y. rw (t .rest) (rw (q, y) at (tk .count));
+                      good = λ y. rw (t .rest) (tk .good q y);
+                      spoilt = λ y. rw (t .rest) (tk .spoilt q y);
                     })
 
             step : (x : Bool) → refusesErase health k ≡ x → (y : Bool) → spoils health N k head s ≡ y
                 → Grew (suc m) w s (growOf alloc (suc m) w health B N head s img)
-            step true q y r = rw (growOf, e, q) (later m k s w w′ img _ tk (rw q at (tk .count)) (ih w′ img c (tk .ok)))
+            step true q y r = rw (growOf, e, q) (later m k s w w′ img _ tk (tk .refused q) (ih w′ img c (tk .ok)))
             step false q true r =
                 rw (growOf, e, q, r)
-                (later m k s w w′ img _ tk (rw (q, spoilt-two health N k head s r) at (tk .count)) (ih w′ (wiped B k img) (wo .card) (moved (wiped B k img) wo)))
-            step false q false r = rw (growOf, e, q, r) (last q _ (links B N w′ k head (wiped B k img) (wo .card) s short))
+                (later m k s w w′ img _ tk (tk .spoilt q (spoilt-two health N k head s r)) (ih w′ (wiped B img k) (wo .card) (moved (wiped B img k) wo)))
+            step false q false r = rw (growOf, e, q, r) (last q _ (links B N w′ k head (wiped B img k) (wo .card) s short))

@@ -6,13 +6,14 @@ use lib.ListN.{length, replicate, take}
 use lib.Count.{trailingZeros}
 use Rattle.span.specs.Words.{wordAt, bytes32}
 use Rattle.layout.specs.Layout.{pointers, capacity, start, indexAt, offsetAt}
-use Rattle.card.specs.Blocks.{pointer}
 use Rattle.ctz.specs.Lists.{down}
 use Rattle.device.specs.Device.{stored, wiped}
-use Rattle.grow.specs.Grow.{part, pointersOf, linkOf, spoils, growOf}
-use Rattle.store.specs.Write.{WriteOut, Written, NoRoom, fronted, tailed, filledOf, grownOf, writeOf, starts, wanted, looked, firstHead, putOf}
-use Rattle.writes.specs.Supply.{handOut}
-use Rattle.writes.proofs.Listed.{lookAt}
+use Rattle.store.specs.Write.{starts, wanted, looked, firstHead}
+use Rattle.writes.proofs.Listed.{lookAt, handOut}
+use Rattle.grow.specs.inner.Grow.{part, pointersOf, linkOf, spoils, growOf}
+use Rattle.trials.specs.Loop.{Written, NoRoom, WriteOut}
+use Rattle.store.specs.inner.Write.{fronted, tailed, filledOf, grownOf, writeOf, putOf}
+use Rattle.card.specs.Card.{pointer}
 
 -- one byte after a gap of two, into an empty file; block 2 refuses its erase, block 1 its program
 one-byte : WriteOut (List ℕ)

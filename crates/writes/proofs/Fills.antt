@@ -9,12 +9,14 @@ use borrow.Author.Tests.{ltb-true, ltb-false}
 use lib.Dec.{ltb}
 use lib.ListN.{length, getD, take, drop, length-replicate, getD-replicate, length-take, length-drop}
 use lib.Seq.{getD-take, getD-drop}
-use Rattle.card.specs.Card.{Card}
 use Rattle.device.specs.Device.{stored}
-use Rattle.grow.specs.Grow.{part}
-use Rattle.store.specs.Write.{Job, over, WriteOut, fronted, tailed, filledOf, zeros, Look, Found}
-use Rattle.writes.specs.Cells.{cell}
-use Rattle.writes.proofs.Cells.{stored-card, stored-other, stored-out, stored-in, part-length, part-at}
+use Rattle.store.specs.Write.{Job, over, zeros, Look, Found}
+use Rattle.writes.proofs.Cells.{stored-card, stored-other, stored-out, stored-in, part-length, part-at, cell}
+use Rattle.grow.specs.inner.Grow.{part}
+use Rattle.trials.specs.Loop.{WriteOut}
+use Rattle.store.specs.inner.Write.{fronted, tailed, filledOf}
+use Rattle.card.specs.inner.Cards.{CardFacts}
+use Rattle.device.specs.inner.Bounds.{spot}
 
 below-min : (x a b : ℕ) → x < a → x < b → x < min a b
 below-min x a b h g = omega arith
@@ -22,7 +24,7 @@ below-min x a b h g = omega arith
 data-within : (d s pos n : ℕ) → pos ≤ s + d → s + d < pos + n → d - (pos - s) < n - (s - pos)
 data-within d s pos n g u = omega arith
 
-module _ (B N k off s w pos : ℕ) (src img : List ℕ) (c : Card B N (length img)) (low : k < N) (room : off + w ≤ B) where
+module _ (B N k off s w pos : ℕ) (src img : List ℕ) (c : CardFacts B N (length img)) (low : k < N) (room : off + w ≤ B) where
   abbrev gap : ℕ
   gap = min (pos - s) w
 
@@ -33,7 +35,7 @@ module _ (B N k off s w pos : ℕ) (src img : List ℕ) (c : Card B N (length im
   vs = take (w - min (pos - s) w) (drop (s - pos) src)
 
   abbrev img₁ : List ℕ
-  img₁ = stored B k off zs img
+  img₁ = stored B img (spot k off) zs
 
   abbrev img₂ : List ℕ
   img₂ = fronted B k off s w pos src img
@@ -47,11 +49,11 @@ module _ (B N k off s w pos : ℕ) (src img : List ℕ) (c : Card B N (length im
   fit : off + gap + length vs ≤ B
   fit = omega (arith, lv)
 
-  c₁ : Card B N (length img₁)
+  c₁ : CardFacts B N (length img₁)
   c₁ = stored-card B k off zs img N c
 
   -- it is a card as before
-  pub front-card : Card B N (length img₂)
+  pub front-card : CardFacts B N (length img₂)
   unfolding fronted
   front-card = stored-card B k (off + gap) vs img₁ N c₁
 
@@ -86,7 +88,7 @@ module _ (B N k off s w pos : ℕ) (src img : List ℕ) (c : Card B N (length im
       stored-in B k (off + gap) vs img₁ N c₁ low fit (d - gap) (rw lv (below-min (d - gap) (w - gap) (length src - (s - pos)) a b)) in
       (rw e at r) ∙ getD-take (w - gap) (drop (s - pos) src) (d - gap) 0 (omega arith) ∙ getD-drop (s - pos) src (d - gap) 0 ∙ ap (λ (x : ℕ). getD src x 0) e′
 
-module _ (B N k off s w ob e : ℕ) (img : List ℕ) (c : Card B N (length img)) (low : k < N) (lob : ob < N) (room : off + w ≤ B) (some : e - s < w) where
+module _ (B N k off s w ob e : ℕ) (img : List ℕ) (c : CardFacts B N (length img)) (low : k < N) (lob : ob < N) (room : off + w ≤ B) (some : e - s < w) where
   abbrev ts : List ℕ
   ts = part B ob (off + (e - s)) (w - (e - s)) img
 
@@ -97,7 +99,7 @@ module _ (B N k off s w ob e : ℕ) (img : List ℕ) (c : Card B N (length img))
   lt = part-length B N ob (off + (e - s)) (w - (e - s)) img c lob (omega arith)
 
   -- it is a card as before
-  tail-card : Card B N (length img₃)
+  tail-card : CardFacts B N (length img₃)
   unfolding tailed
   tail-card = stored-card B k (off + (e - s)) ts img N c
 
@@ -122,7 +124,7 @@ module _ (B N k off s w ob e : ℕ) (img : List ℕ) (c : Card B N (length img))
 
 -- the whole fill of one block
 pub record Filled (B N : ℕ) (j : Job) (img img′ : List ℕ) (k off s w ob : ℕ) : Type 0 where
-  pub card : Card B N (length img′)
+  pub card : CardFacts B N (length img′)
   pub others : (k′ o : ℕ) → k ≢ k′ → o < B → cell B img′ k′ o ≡ cell B img k′ o
   pub before : (o : ℕ) → o < off → cell B img′ k o ≡ cell B img k o
   pub gap : (d : ℕ) → d < w → s + d < j .pos → cell B img′ k (off + d) ≡ 0
@@ -130,7 +132,7 @@ pub record Filled (B N : ℕ) (j : Job) (img img′ : List ℕ) (k off s w ob : 
   pub tail : (d : ℕ) → d < w → over j ≤ s + d → cell B img′ k (off + d) ≡ cell B img ob (off + d)
 
 -- The definition's fill of a block goes on with an image on which the block is filled, if the tail's old block is found.
-pub filling : {W : Type 0} (look : List ℕ → ℕ → Look) (B N : ℕ) (j : Job) (k off s w ob : ℕ) (img : List ℕ) (ks : W) (go : List ℕ → WriteOut W) → Card B N (length img) → k < N → off + w ≤ B
+pub filling : {W : Type 0} (look : List ℕ → ℕ → Look) (B N : ℕ) (j : Job) (k off s w ob : ℕ) (img : List ℕ) (ks : W) (go : List ℕ → WriteOut W) → CardFacts B N (length img) → k < N → off + w ≤ B
     → (over j - s < w → (ob < N) × (k ≢ ob) × (look (fronted B k off s w (j .pos) (j .src) img) (s + (over j - s)) ≡ Found ob))
     → (img′ : List ℕ) × Filled B N j img img′ k off s w ob × (filledOf look B j k off s w (fronted B k off s w (j .pos) (j .src) img) ks go ≡ go img′)
 unfolding filledOf

@@ -9,15 +9,17 @@ use borrow.Author.Tests.{eq-eqb, ne-eqb, eqb-true, eqb-false}
 use lib.Dec.{eqb}
 use lib.Pow.{pow-pos}
 use Rattle.layout.specs.Layout.{pointers, start, indexAt, offsetAt}
-use Rattle.layout.specs.Place.{Sized}
 use Rattle.layout.proofs.Laws.{start-mono}
 use Rattle.layout.proofs.Places.{offset-inside}
-use Rattle.card.specs.Blocks.{pointer}
-use Rattle.writes.specs.Cells.{cell, byteAt}
-use Rattle.writes.specs.Lists.{Holds, put}
-use Rattle.writes.proofs.Cells.{pointer-same}
+use Rattle.writes.proofs.Cells.{pointer-same, cell, byteBy}
 use Rattle.writes.proofs.Index.{in-block, roomy, start-lt, index-is, pow-le}
-use Rattle.writes.proofs.Holds.{either, used}
+use Rattle.writes.proofs.Holds.{either, used, Holds}
+use Rattle.layout.specs.inner.Served.{BlockSized}
+use Rattle.card.specs.Card.{pointer}
+
+-- blocks f, with k for index i
+unfoldable pub put : (ℕ → ℕ) → ℕ → ℕ → ℕ → ℕ
+put f i k j = elim (eqb j i) [ true ↦ k | false ↦ f j ]
 
 -- the new block stands for its index
 pub put-same : (f : ℕ → ℕ) (i k : ℕ) → put f i k i ≡ k
@@ -32,10 +34,10 @@ put-other f i k j h = rw (put, ne-eqb j i h)
 -- what a growth and what fills its block leave: block k stands for index i, with the old bytes from the block's first position up to s
 pub record Made (B : ℕ) (img img′ : List ℕ) (f : ℕ → ℕ) (k i s : ℕ) : Type 0 where
   pub others : (k′ o : ℕ) → k ≢ k′ → o < B → cell B img′ k′ o ≡ cell B img k′ o
-  pub heads : (x : ℕ) → x < pointers i → pointer img′ B k x ≡ f (i - 2 ^ x)
+  pub heads : (x : ℕ) → x < pointers i → pointer B img′ k x ≡ f (i - 2 ^ x)
   pub front : (p : ℕ) → start B i ≤ p → p < s → cell B img′ k (offsetAt B p) ≡ cell B img (f i) (offsetAt B p)
 
-module _ (B N : ℕ) (sized : Sized B) (img img′ : List ℕ) (f : ℕ → ℕ) (s k i : ℕ) (h : Holds B N img f s) (ei : indexAt B s ≡ i)
+module _ (B N : ℕ) (sized : BlockSized B) (img img′ : List ℕ) (f : ℕ → ℕ) (s k i : ℕ) (h : Holds B N img f s) (ei : indexAt B s ≡ i)
     (low : k < N) (free : (j : ℕ) → start B j < s → k ≢ f j) (m : Made B img img′ f k i s) where
   inside : (start B i ≤ s) × (s < start B (suc i))
   inside = let a = in-block B sized s (h .short) in rw (← ei) (a .from, a .until)
@@ -76,7 +78,7 @@ module _ (B N : ℕ) (sized : Sized B) (img img′ : List ℕ) (f : ℕ → ℕ)
           h .apart j j′ (earlier s′ j e u (eqb-false j i a) .1) (earlier s′ j′ e u′ (eqb-false j′ i b) .1)
           (sym (put-other f i k j (eqb-false j i a)) ∙ q ∙ put-other f i k j′ (eqb-false j′ i b))
 
-      points-at : (j x : ℕ) → start B j < s′ → x < pointers j → (t : Bool) → eqb j i ≡ t → pointer img′ B (put f i k j) x ≡ put f i k (j - 2 ^ x)
+      points-at : (j x : ℕ) → start B j < s′ → x < pointers j → (t : Bool) → eqb j i ≡ t → pointer B img′ (put f i k j) x ≡ put f i k (j - 2 ^ x)
       points-at j x u g true q =
           let ji = eqb-true j i q in
           let g′ : x < pointers i = rw ji at g in
@@ -91,8 +93,8 @@ module _ (B N : ℕ) (sized : Sized B) (img img′ : List ℕ) (f : ℕ → ℕ)
           (pointer-same B img img′ (f j) (f j) x (omega arith) (λ o p p′. m .others (f j) o (free j (a .1)) (omega arith)) ∙ h .points j x (a .1) g)
 
   -- its earlier bytes are as they were
-  pub grown-old : (p : ℕ) → p < s → byteAt B img′ (put f i k) p ≡ byteAt B img f p
-  unfolding byteAt
+  pub grown-old : (p : ℕ) → p < s → byteBy B img′ (put f i k) p ≡ byteBy B img f p
+  unfolding byteBy
   grown-old p l = go (eqb (indexAt B p) i) refl
     where
       l32 : p < 2 ^ 32
@@ -107,7 +109,7 @@ module _ (B N : ℕ) (sized : Sized B) (img img′ : List ℕ) (f : ℕ → ℕ)
           (m .others (f (indexAt B p)) (offsetAt B p) (free (indexAt B p) (used B N sized p s l (h .short))) (offset-inside B p (in-block B sized p l32)))
 
   -- its further bytes are the new block's
-  pub grown-new : (p : ℕ) → s ≤ p → p < start B (suc i) → p < 2 ^ 32 → byteAt B img′ (put f i k) p ≡ cell B img′ k (offsetAt B p)
-  unfolding byteAt
+  pub grown-new : (p : ℕ) → s ≤ p → p < start B (suc i) → p < 2 ^ 32 → byteBy B img′ (put f i k) p ≡ cell B img′ k (offsetAt B p)
+  unfolding byteBy
   grown-new p l u b =
       ap (λ (z : ℕ). cell B img′ z (offsetAt B p)) (ap (put f i k) (index-is B sized p i b (omega (arith, inside .0)) u) ∙ put-same f i k)

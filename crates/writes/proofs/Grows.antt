@@ -7,27 +7,26 @@ use Prim.Native.Nat.{ℕ, zero, suc, _-_, _<_}
 use native.Mathlib.Omega.{arith}
 use lib.ListN.{length, replicate, length-replicate}
 use Rattle.layout.specs.Layout.{start, indexAt, offsetAt}
-use Rattle.card.specs.Card.{Card}
 use Rattle.device.specs.Device.{wiped, refusesErase}
 use Rattle.grow.specs.declared.Growth.the-variants.{Grown, Full}
-use Rattle.grow.specs.Supply.{Took, Block, None, Bad}
-use Rattle.grow.specs.Grow.{GrowOut, growOf, spoils}
-use Rattle.writes.specs.Cells.{cell}
-use Rattle.writes.specs.Lists.{Holds}
-use Rattle.writes.specs.Allocator.{In, Known, Stays, Taken, Allocator}
-use Rattle.writes.proofs.Cells.{stored-card, stored-other}
-use Rattle.writes.proofs.Holds.{moves}
+use Rattle.writes.proofs.Cells.{stored-card, stored-other, cell}
+use Rattle.writes.proofs.Holds.{moves, Holds}
 use Rattle.writes.proofs.Grown.{Made}
 use Rattle.writes.proofs.Links.{Linked, linked}
+use Rattle.writes.proofs.Allocators.{In, Standing, Stays, Allotted, Allocator}
+use Rattle.trials.specs.Loop.{Took, Block, None, Bad}
+use Rattle.grow.specs.Extend.{GrowOut}
+use Rattle.grow.specs.inner.Grow.{spoils, growOf}
+use Rattle.card.specs.inner.Cards.{CardFacts}
 
 module _ (B k : ℕ) (img : List ℕ) where
   -- an erase leaves a card
-  pub wiped-card : (N : ℕ) → Card B N (length img) → Card B N (length (wiped B k img))
+  pub wiped-card : (N : ℕ) → CardFacts B N (length img) → CardFacts B N (length (wiped B img k))
   unfolding wiped
   wiped-card N c = stored-card B k 0 (replicate B 255) img N c
 
   -- and every other block as it was
-  pub wiped-other : (k′ o′ : ℕ) → k ≢ k′ → o′ < B → cell B (wiped B k img) k′ o′ ≡ cell B img k′ o′
+  pub wiped-other : (k′ o′ : ℕ) → k ≢ k′ → o′ < B → cell B (wiped B img k) k′ o′ ≡ cell B img k′ o′
   unfolding wiped
   wiped-other = stored-other B k 0 (replicate B 255) img (omega (arith, length-replicate {A = ℕ} B 255))
 
@@ -39,23 +38,23 @@ module _ {W : Type 0} (B N : ℕ) (health : List ℕ) (tries : W → ℕ) (alloc
     pub answer : o .answer ≡ Grown k (offsetAt B s)
     pub low : k < N
     pub fresh : In k out′
-    pub mine : (k′ : ℕ) → Known L out k′ → k ≢ k′
+    pub mine : (k′ : ℕ) → Standing L out k′ → k ≢ k′
     pub mid : List ℕ
-    pub before : Stays B (Known L out) img mid
+    pub before : Stays B (Standing L out) img mid
     pub made : Made B mid (o .image) f k (indexAt B s) s
 
   -- what a growth leaves, made or not; on a sound list it is never damaged
   pub record Growing (out img : List ℕ) (f : ℕ → ℕ) (s : ℕ) (o : GrowOut W) : Type 0 where
     pub out′ : List ℕ
-    pub card : Card B N (length (o .image))
-    pub stays : Stays B (Known L out) img (o .image)
+    pub card : CardFacts B N (length (o .image))
+    pub stays : Stays B (Standing L out) img (o .image)
     pub ok : Ok (o .rest) out′ (o .image)
     pub less : (k : ℕ) → In k out → In k out′
     pub end : (o .answer ≡ Full) ⊎ ((k : ℕ) × Got out img f s o out′ k)
 
   module _ (f : ℕ → ℕ) (head s : ℕ) where
     -- a block that was passed
-    later : (k : ℕ) (w w′ : W) (out img img₁ : List ℕ) (o : GrowOut W) → Taken N tries L Ok w w′ out img k
+    later : (k : ℕ) (w w′ : W) (out img img₁ : List ℕ) (o : GrowOut W) → Allotted N tries L Ok w w′ out img k
         → ((k′ o′ : ℕ) → k ≢ k′ → o′ < B → cell B img₁ k′ o′ ≡ cell B img k′ o′) → Growing (k ∷ out) img₁ f s o → Growing out img f s o
     later k w w′ out img img₁ o t e g = record {
       out′ = g .out′;
@@ -66,7 +65,7 @@ module _ {W : Type 0} (B N : ℕ) (health : List ℕ) (tries : W → ℕ) (alloc
       end = go (g .end);
     }
       where
-        known : {k′ : ℕ} → Known L out k′ → Known L (k ∷ out) k′
+        known : {k′ : ℕ} → Standing L out k′ → Standing L (k ∷ out) k′
         known (inl a) = inl a
         known (inr a) = inr (inr a)
 
@@ -88,7 +87,7 @@ module _ {W : Type 0} (B N : ℕ) (health : List ℕ) (tries : W → ℕ) (alloc
             )
 
     -- the block that was taken
-    taken-one : (k : ℕ) (w w′ : W) (out img img₁ : List ℕ) (o : GrowOut W) → Taken N tries L Ok w w′ out img k
+    taken-one : (k : ℕ) (w w′ : W) (out img img₁ : List ℕ) (o : GrowOut W) → Allotted N tries L Ok w w′ out img k
         → ((k′ o′ : ℕ) → k ≢ k′ → o′ < B → cell B img₁ k′ o′ ≡ cell B img k′ o′) → Linked B N w′ img₁ f k s o → Growing out img f s o
     taken-one k w w′ out img img₁ o t e v = record {
       out′ = k ∷ out;
@@ -110,12 +109,12 @@ module _ {W : Type 0} (B N : ℕ) (health : List ℕ) (tries : W → ℕ) (alloc
       );
     }
       where
-        all : Stays B (Known L out) img (o .image)
+        all : Stays B (Standing L out) img (o .image)
         all k′ o′ u l = v .made .others k′ o′ (t .new k′ u) l ∙ e k′ o′ (t .new k′ u) l
 
     -- A growth of a sound list takes a block that was not known, or finds none; nothing that was known changes.
-    pub growing : (m : ℕ) (w : W) (out img : List ℕ) → Card B N (length img) → Ok w out img → Holds B N img f s → (0 < s → f (indexAt B (s - 1)) ≡ head)
-        → ((i : ℕ) → start B i < s → Known L out (f i)) → Growing out img f s (growOf alloc m w health B N head s img)
+    pub growing : (m : ℕ) (w : W) (out img : List ℕ) → CardFacts B N (length img) → Ok w out img → Holds B N img f s → (0 < s → f (indexAt B (s - 1)) ≡ head)
+        → ((i : ℕ) → start B i < s → Standing L out (f i)) → Growing out img f s (growOf alloc m w health B N head s img)
     unfolding growOf
     growing zero w out img c ok h t cl = record {
       out′ = out;
@@ -128,8 +127,8 @@ module _ {W : Type 0} (B N : ℕ) (health : List ℕ) (tries : W → ℕ) (alloc
     growing (suc m) w out img c ok h t cl = by (alloc w img) refl (growing m)
       where
         by : (a : Took W) → alloc w img ≡ a
-            → ((w : W) (out img : List ℕ) → Card B N (length img) → Ok w out img → Holds B N img f s → (0 < s → f (indexAt B (s - 1)) ≡ head)
-            → ((i : ℕ) → start B i < s → Known L out (f i)) → Growing out img f s (growOf alloc m w health B N head s img))
+            → ((w : W) (out img : List ℕ) → CardFacts B N (length img) → Ok w out img → Holds B N img f s → (0 < s → f (indexAt B (s - 1)) ≡ head)
+            → ((i : ℕ) → start B i < s → Standing L out (f i)) → Growing out img f s (growOf alloc m w health B N head s img))
             → Growing out img f s (growOf alloc (suc m) w health B N head s img)
         by (None w′) e ih =
             rw (growOf, e) (record {
@@ -143,22 +142,22 @@ module _ {W : Type 0} (B N : ℕ) (health : List ℕ) (tries : W → ℕ) (alloc
         by (Bad w′) e ih = absurd (al .never w w′ out img ok e)
         by (Block k w′) e ih = step (refusesErase health k) refl (spoils health N k head s) refl
           where
-            tk : Taken N tries L Ok w w′ out img k
+            tk : Allotted N tries L Ok w w′ out img k
             tk = al .taken w w′ out img k ok e
 
-            ow : (k′ o′ : ℕ) → k ≢ k′ → o′ < B → cell B (wiped B k img) k′ o′ ≡ cell B img k′ o′
+            ow : (k′ o′ : ℕ) → k ≢ k′ → o′ < B → cell B (wiped B img k) k′ o′ ≡ cell B img k′ o′
             ow = wiped-other B k img
 
-            cw : Card B N (length (wiped B k img))
+            cw : CardFacts B N (length (wiped B img k))
             cw = wiped-card B k img N c
 
-            hw : Holds B N (wiped B k img) f s
-            hw = moves B N (c .sized) img (wiped B k img) f s h (λ i o′ u l. ow (f i) o′ (tk .new (f i) (cl i u)) l)
+            hw : Holds B N (wiped B img k) f s
+            hw = moves B N (c .sized) img (wiped B img k) f s h (λ i o′ u l. ow (f i) o′ (tk .new (f i) (cl i u)) l)
 
-            cl′ : (i : ℕ) → start B i < s → Known L (k ∷ out) (f i)
+            cl′ : (i : ℕ) → start B i < s → Standing L (k ∷ out) (f i)
             cl′ i u = known (cl i u)
               where
-                known : {k′ : ℕ} → Known L out k′ → Known L (k ∷ out) k′
+                known : {k′ : ℕ} → Standing L out k′ → Standing L (k ∷ out) k′
                 known (inl a) = inl a
                 known (inr a) = inr (inr a)
 
@@ -168,9 +167,9 @@ module _ {W : Type 0} (B N : ℕ) (health : List ℕ) (tries : W → ℕ) (alloc
                 rw (growOf, e, q) (later k w w′ out img img _ tk (λ k′ o′ ne l. refl) (ih w′ (k ∷ out) img c (tk .ok) h t cl′))
             step false q true r =
                 rw (growOf, e, q, r)
-                (later k w w′ out img (wiped B k img) _ tk ow
-                (ih w′ (k ∷ out) (wiped B k img) cw (al .frame w′ (k ∷ out) img (wiped B k img) (tk .ok) cw (λ k′ o′ u l. ow k′ o′ (tk .new k′ (inl u)) l)) hw t cl′))
+                (later k w w′ out img (wiped B img k) _ tk ow
+                (ih w′ (k ∷ out) (wiped B img k) cw (al .frame w′ (k ∷ out) img (wiped B img k) (tk .ok) cw (λ k′ o′ u l. ow k′ o′ (tk .new k′ (inl u)) l)) hw t cl′))
             step false q false r =
                 rw (growOf, e, q, r)
-                (taken-one k w w′ out img (wiped B k img) _ tk ow
-                (linked B N w′ f k s (tk .low) (λ i u. tk .new (f i) (cl i u)) head (wiped B k img) cw hw t s refl))
+                (taken-one k w w′ out img (wiped B img k) _ tk ow
+                (linked B N w′ f k s (tk .low) (λ i u. tk .new (f i) (cl i u)) head (wiped B img k) cw hw t s refl))

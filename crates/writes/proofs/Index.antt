@@ -5,13 +5,14 @@ use native.Mathlib.Nat.{dvd-sub, dvd-refl, le-of-dvd, pow-suc}
 use native.Mathlib.Omega.{arith, by-contra}
 use lib.Pow.{pow-pos}
 use lib.Count.{trailingZeros, trailing-le}
-use Rattle.layout.specs.Layout.{pointers, start, InBlock, indexAt, offsetAt}
-use Rattle.layout.specs.Place.{Sized}
+use Rattle.layout.specs.Layout.{pointers, start, indexAt, offsetAt}
 use Rattle.layout.proofs.Laws.{start-mono}
 use Rattle.layout.proofs.Places.{start-suc, offset-of}
 use Rattle.layout.proofs.Served.{served, index-in, index-found, pointers-fit}
 use Rattle.hops.proofs.Digits.{dvd-of-ctz, ctz-of-dvd}
 use Rattle.plain.proofs.Indexes.{index-met}
+use Rattle.layout.specs.inner.Served.{BlockSized}
+use Rattle.layout.proofs.InBlock.{InBlock}
 
 -- ---- pointers
 
@@ -46,7 +47,7 @@ pointers-some n = omega arith
 
 -- ---- starts
 
-module _ (B : ℕ) (sized : Sized B) where
+module _ (B : ℕ) (sized : BlockSized B) where
   -- a position lies in the block of its index
   pub in-block : (p : ℕ) → p < 2 ^ 32 → InBlock B p (indexAt B p)
   in-block p h = index-in (served sized h)

@@ -1,6 +1,7 @@
 -- The theorems on growth and write.
 pub mod Index
 pub mod Cells
+pub mod Allocators
 pub mod Holds
 pub mod Lists
 pub mod Grown

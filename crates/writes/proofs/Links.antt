@@ -10,35 +10,36 @@ use lib.ListN.{length, getD}
 use lib.Pow.{pow-pos}
 use Rattle.span.specs.Words.{bytes32}
 use Rattle.span.proofs.Words.{length-bytes32}
-use Rattle.layout.specs.Layout.{pointers, start, InBlock, indexAt, offsetAt}
+use Rattle.layout.specs.Layout.{pointers, start, indexAt, offsetAt}
 use Rattle.layout.proofs.Laws.{pointers-zero}
 use Rattle.layout.proofs.Places.{offset-inside, offset-past, offset-of, next-place, Same, Next}
-use Rattle.card.specs.Blocks.{pointer}
-use Rattle.card.specs.Card.{Card}
 use Rattle.device.specs.Device.{stored}
 use Rattle.grow.specs.declared.Growth.the-variants.{Grown}
-use Rattle.grow.specs.Grow.{GrowOut, part, pointersOf, linkOf}
-use Rattle.writes.specs.Cells.{cell}
-use Rattle.writes.specs.Lists.{Holds}
-use Rattle.writes.proofs.Cells.{stored-card, stored-other, stored-out, stored-in, part-length, part-at, pointer-same, pointer-stored}
+use Rattle.writes.proofs.Cells.{stored-card, stored-other, stored-out, stored-in, part-length, part-at, pointer-same, pointer-stored, cell}
 use Rattle.writes.proofs.Index.{in-block, roomy, start-lt, offset-is, pow-le, pow-next}
-use Rattle.writes.proofs.Holds.{either, moves}
+use Rattle.writes.proofs.Holds.{either, moves, Holds}
 use Rattle.writes.proofs.Grown.{Made}
+use Rattle.grow.specs.Extend.{GrowOut}
+use Rattle.grow.specs.inner.Grow.{part, pointersOf, linkOf}
+use Rattle.layout.proofs.InBlock.{InBlock}
+use Rattle.card.specs.inner.Cards.{CardFacts}
+use Rattle.card.specs.Card.{pointer}
+use Rattle.device.specs.inner.Bounds.{spot}
 
 -- what linking block k to a list of s bytes leaves: k is the block of the next position, whose offset is answered; the allocator is untouched
 pub record Linked {W : Type 0} (B N : ℕ) (ks : W) (img : List ℕ) (f : ℕ → ℕ) (k s : ℕ) (o : GrowOut W) : Type 0 where
   pub answer : o .answer ≡ Grown k (offsetAt B s)
   pub rest : o .rest ≡ ks
-  pub card : Card B N (length (o .image))
+  pub card : CardFacts B N (length (o .image))
   pub made : Made B img (o .image) f k (indexAt B s) s
 
 record Pointed {W : Type 0} (B N : ℕ) (ks : W) (img : List ℕ) (f : ℕ → ℕ) (k i x m off : ℕ) (o : GrowOut W) : Type 0 where
   answer : o .answer ≡ Grown k off
   rest : o .rest ≡ ks
-  card : Card B N (length (o .image))
+  card : CardFacts B N (length (o .image))
   others : (k′ o′ : ℕ) → k ≢ k′ → o′ < B → cell B (o .image) k′ o′ ≡ cell B img k′ o′
   before : (o′ : ℕ) → o′ < 4 * x → cell B (o .image) k o′ ≡ cell B img k o′
-  named : (y : ℕ) → x ≤ y → y < x + m → pointer (o .image) B k y ≡ f (i - 2 ^ y)
+  named : (y : ℕ) → x ≤ y → y < x + m → pointer B (o .image) k y ≡ f (i - 2 ^ y)
 
 pub at-zero : (B : ℕ) → indexAt B 0 ≡ 0
 unfolding indexAt
@@ -46,7 +47,7 @@ at-zero B = refl
 
 module _ {W : Type 0} (B N : ℕ) (ks : W) (f : ℕ → ℕ) (k s : ℕ) (low : k < N) (free : (j : ℕ) → start B j < s → k ≢ f j) where
   -- the pointers of a new block: each is the block 2 ^ y below, read from the block just named
-  pointed : (m i x cur off : ℕ) (img : List ℕ) → Card B N (length img) → Holds B N img f s → start B i ≤ s → x + m ≡ pointers i → (0 < m → cur ≡ f (i - 2 ^ x))
+  pointed : (m i x cur off : ℕ) (img : List ℕ) → CardFacts B N (length img) → Holds B N img f s → start B i ≤ s → x + m ≡ pointers i → (0 < m → cur ≡ f (i - 2 ^ x))
       → Pointed B N ks img f k i x m off (pointersOf m B N k off x cur img ks)
   unfolding pointersOf
   pointed zero i x cur off img c h st e cu = record {
@@ -66,15 +67,15 @@ module _ {W : Type 0} (B N : ℕ) (ks : W) (f : ℕ → ℕ) (k s : ℕ) (low : 
       let us : start B (i - 2 ^ x) < s = omega (arith, start-lt B sized s (i - 2 ^ x) i (h .short) st (omega arith)) in
       let ce : cur ≡ f (i - 2 ^ x) = cu (omega arith) in
       let cl : cur < N = rw ce (h .low (i - 2 ^ x) us) in
-      let img₁ = stored B k (4 * x) (bytes32 cur) img in
+      let img₁ = stored B img (spot k (4 * x)) (bytes32 cur) in
       let fit : 4 * x + 4 ≤ B = omega arith in
       let oth : (k′ o′ : ℕ) → k ≢ k′ → o′ < B → cell B img₁ k′ o′ ≡ cell B img k′ o′ = stored-other B k (4 * x) (bytes32 cur) img (omega (arith, length-bytes32 cur)) in
-      let c₁ : Card B N (length img₁) = stored-card B k (4 * x) (bytes32 cur) img N c in
+      let c₁ : CardFacts B N (length img₁) = stored-card B k (4 * x) (bytes32 cur) img N c in
       let h₁ : Holds B N img₁ f s = moves B N sized img img₁ f s h (λ j o′ u l. oth (f j) o′ (free j u) l) in
-      let nx : 0 < m → pointer img₁ B cur x ≡ f (i - 2 ^ suc x) = λ p.
+      let nx : 0 < m → pointer B img₁ cur x ≡ f (i - 2 ^ suc x) = λ p.
       (let n = pow-next i x (omega arith) in
-      ap (λ (z : ℕ). pointer img₁ B z x) ce ∙ h₁ .points (i - 2 ^ x) x us (n .0) ∙ ap f (n .1)) in
-      let r = pointed m i (suc x) (pointer img₁ B cur x) off img₁ c₁ h₁ st (omega (arith, add-suc x m, suc-add x m)) nx in
+      ap (λ (z : ℕ). pointer B img₁ z x) ce ∙ h₁ .points (i - 2 ^ x) x us (n .0) ∙ ap f (n .1)) in
+      let r = pointed m i (suc x) (pointer B img₁ cur x) off img₁ c₁ h₁ st (omega (arith, add-suc x m, suc-add x m)) nx in
       rw (pointersOf, lt-ltb cur N cl) (record {
         answer = r .answer;
         rest = r .rest;
@@ -85,22 +86,22 @@ module _ {W : Type 0} (B N : ℕ) (ks : W) (f : ℕ → ℕ) (k s : ℕ) (low : 
       })
     where
       step : (m i x off : ℕ) (img₁ : List ℕ) (o : GrowOut W) → Pointed B N ks img₁ f k i (suc x) m off o → 4 * x + 4 ≤ B
-          → pointer img₁ B k x ≡ f (i - 2 ^ x) → (y : ℕ) → x ≤ y → y < x + suc m → (x < y) ⊎ (y ≤ x) → pointer (o .image) B k y ≡ f (i - 2 ^ y)
+          → pointer B img₁ k x ≡ f (i - 2 ^ x) → (y : ℕ) → x ≤ y → y < x + suc m → (x < y) ⊎ (y ≤ x) → pointer B (o .image) k y ≡ f (i - 2 ^ y)
       step m i x off img₁ o r fit e y l g (inl p) = r .named y p (omega (arith, add-suc x m, suc-add x m))
       step m i x off img₁ o r fit e y l g (inr p) =
           let q : x ≡ y = omega arith in
-          subst (λ (z : ℕ). pointer (o .image) B k z ≡ f (i - 2 ^ z)) q
+          subst (λ (z : ℕ). pointer B (o .image) k z ≡ f (i - 2 ^ z)) q
           (pointer-same B img₁ (o .image) k k x fit (λ o′ a b. r .before o′ (omega arith)) ∙ e)
 
   -- n bytes copied from another block
-  copied : (a n : ℕ) (img : List ℕ) → Card B N (length img) → a < N → n ≤ B → (o : ℕ) → o < n → cell B (stored B k 0 (part B a 0 n img) img) k o ≡ cell B img a o
+  copied : (a n : ℕ) (img : List ℕ) → CardFacts B N (length img) → a < N → n ≤ B → (o : ℕ) → o < n → cell B (stored B img (spot k 0) (part B a 0 n img)) k o ≡ cell B img a o
   copied a n img c la ln o l =
       let le = part-length B N a 0 n img c la (omega arith) in
-      let i : cell B (stored B k 0 (part B a 0 n img) img) k (0 + o) ≡ getD (part B a 0 n img) o 0 =
+      let i : cell B (stored B img (spot k 0) (part B a 0 n img)) k (0 + o) ≡ getD (part B a 0 n img) o 0 =
       stored-in B k 0 (part B a 0 n img) img N c low (omega arith) o (omega arith) in
       (rw (zero-add o) at i) ∙ part-at B a 0 n img o l ∙ ap (cell B img a) (zero-add o)
 
-  module _ (head : ℕ) (img : List ℕ) (c : Card B N (length img)) (h : Holds B N img f s) where
+  module _ (head : ℕ) (img : List ℕ) (c : CardFacts B N (length img)) (h : Holds B N img f s) where
     link-empty : s ≡ 0 → (o : GrowOut W) → o .answer ≡ Grown k 0 → o .rest ≡ ks → o .image ≡ img → Linked B N ks img f k s o
     link-empty z o a r e =
         let i0 : indexAt B s ≡ 0 = index-zero s z in
@@ -120,7 +121,7 @@ module _ {W : Type 0} (B N : ℕ) (ks : W) (f : ℕ → ℕ) (k s : ℕ) (low : 
 
     -- an incomplete last block is copied
     link-copied : (p : ℕ) → s ≡ suc p → f (indexAt B p) ≡ head → Same B p → (o : GrowOut W) → o .answer ≡ Grown k (suc (offsetAt B p)) → o .rest ≡ ks
-        → o .image ≡ stored B k 0 (part B head 0 (suc (offsetAt B p)) img) img → Linked B N ks img f k s o
+        → o .image ≡ stored B img (spot k 0) (part B head 0 (suc (offsetAt B p)) img) → Linked B N ks img f k s o
     link-copied p z t w o a r e =
         let sized = c .sized in
         let n = suc (offsetAt B p) in
@@ -174,7 +175,7 @@ module _ {W : Type 0} (B N : ℕ) (ks : W) (f : ℕ → ℕ) (k s : ℕ) (low : 
         })
 
   -- An erased block that is none of the list's is linked to it: size 0, an incomplete last block and a full one alike.
-  pub linked : (head : ℕ) (img : List ℕ) → Card B N (length img) → Holds B N img f s → (0 < s → f (indexAt B (s - 1)) ≡ head)
+  pub linked : (head : ℕ) (img : List ℕ) → CardFacts B N (length img) → Holds B N img f s → (0 < s → f (indexAt B (s - 1)) ≡ head)
       → (n : ℕ) → s ≡ n → Linked B N ks img f k s (linkOf B N k head n img ks)
   unfolding linkOf
   linked head img c h t zero z = link-empty head img c h z _ refl refl refl

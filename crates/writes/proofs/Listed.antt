@@ -6,20 +6,36 @@ use Prim.Native.Nat.{ℕ, _^_, _<_}
 use native.Mathlib.Omega.{arith}
 use lib.ListN.{length}
 use Rattle.layout.specs.Layout.{start, indexAt}
-use Rattle.card.specs.Card.{Card}
-use Rattle.ctz.specs.Lists.{SoundList}
-use Rattle.grow.specs.Supply.{Block, None, Bad}
-use Rattle.store.specs.Write.{Job, new, putOf, Look, Found}
-use Rattle.writes.specs.Lists.{blockAt}
-use Rattle.writes.specs.Allocator.{In, Known, Stays, Taken, Allocator}
-use Rattle.writes.specs.Supply.{Out, Supply, handOut}
+use Rattle.ctz.specs.Lists.{SoundList, blockAt}
+use Rattle.store.specs.Write.{Job, new, Look, Found}
 use Rattle.writes.proofs.Holds.{used}
 use Rattle.writes.proofs.Stands.{others-stand}
 use Rattle.writes.proofs.Writes.{Outcome, write-plain}
+use Rattle.writes.proofs.Allocators.{In, Standing, Stays, Allotted, Allocator}
+use Rattle.trials.specs.Loop.{Took, Block, None, Bad}
+use Rattle.store.specs.inner.Write.{putOf}
+use Rattle.card.specs.inner.Cards.{CardFacts, cardWith}
+use Rattle.layout.specs.inner.Served.{blockList}
+
+-- The simplest allocator: a list of the blocks that it is yet to hand out, below N and all different.
+
+-- block k is not among them
+abbrev pub Out : ℕ → List ℕ → Type 0
+Out k [] = Unit {0}
+Out k (x ∷ xs) = (x ≢ k) × Out k xs
+
+abbrev pub Supply : ℕ → List ℕ → Type 0
+Supply N [] = Unit {0}
+Supply N (k ∷ ks) = (k < N) × Out k ks × Supply N ks
+
+-- the first of them, until none is left
+abbrev pub handOut : List ℕ → List ℕ → Took (List ℕ)
+handOut [] img = None []
+handOut (k ∷ ks) img = Block k ks
 
 -- the lookup, by pointer 0
 abbrev pub lookAt : ℕ → ℕ → ℕ → List ℕ → ℕ → Look
-lookAt B head old img p = Found (blockAt img B head old (indexAt B p))
+lookAt B head old img p = Found (blockAt B img (blockList head old) (indexAt B p))
 
 -- all but the blocks ks count as listed
 abbrev pub Rest : List ℕ → ℕ → Type 0
@@ -37,7 +53,7 @@ module _ (B N : ℕ) (health ks₀ : List ℕ) where
   listed = record { taken = taken; none = none; never = never; frame = λ w out img img′ o c s. record { supply = o .supply; listed = o .listed; before = o .before } }
     where
       taken : (w w′ out img : List ℕ) (k : ℕ) → InOrder N ks₀ w out img → handOut w img ≡ Block k w′
-          → Taken N length (Rest ks₀) (InOrder N ks₀) w w′ out img k
+          → Allotted N length (Rest ks₀) (InOrder N ks₀) w w′ out img k
       taken [] w′ out img k o e = let z : _≡_ {A = ℕ} 0 1 = cc in absurd (omega arith)
       taken (x ∷ xs) w′ out img k o e =
           let ek : x ≡ k = cc in
@@ -49,7 +65,7 @@ module _ (B N : ℕ) (health ks₀ : List ℕ) where
             fewer = omega arith;
           })
         where
-          new-one : (k′ : ℕ) → Known (Rest ks₀) out k′ → x ≢ k′
+          new-one : (k′ : ℕ) → Standing (Rest ks₀) out k′ → x ≢ k′
           new-one k′ (inl a) = o .listed k′ a .0
           new-one k′ (inr a) = o .before k′ a .0
 
@@ -66,8 +82,8 @@ module _ (B N : ℕ) (health ks₀ : List ℕ) where
       never (x ∷ xs) w′ out img o e = let z : _≡_ {A = ℕ} 0 1 = cc in omega arith
 
   -- A write from the blocks ks₀ on is written, or refused for want of blocks.
-  pub write-listed : (j : Job) (img : List ℕ) → Card B N (length img) → Supply N ks₀ → SoundList img B N (j .head) (j .old)
-      → ((i : ℕ) → start B i < j .old → Out (blockAt img B (j .head) (j .old) i) ks₀) → 0 < length (j .src) → new j < 2 ^ 32
+  pub write-listed : (j : Job) (img : List ℕ) → CardFacts B N (length img) → Supply N ks₀ → SoundList (cardWith B N img) (blockList (j .head) (j .old))
+      → ((i : ℕ) → start B i < j .old → Out (blockAt B img (blockList (j .head) (j .old)) i) ks₀) → 0 < length (j .src) → new j < 2 ^ 32
       → Outcome B N j (Rest ks₀) (InOrder N ks₀) img
       (putOf (lookAt B (j .head) (j .old)) length handOut health B N j ks₀ img)
   write-listed j img c su so cl sm ft =
@@ -77,7 +93,7 @@ module _ (B N : ℕ) (health ks₀ : List ℕ) where
       short : j .old < 2 ^ 32
       short = omega arith
 
-      looks : (img′ : List ℕ) → Card B N (length img′) → Stays B (Rest ks₀) img img′ → (p : ℕ) → p < j .old
-          → lookAt B (j .head) (j .old) img′ p ≡ Found (blockAt img B (j .head) (j .old) (indexAt B p))
+      looks : (img′ : List ℕ) → CardFacts B N (length img′) → Stays B (Rest ks₀) img img′ → (p : ℕ) → p < j .old
+          → lookAt B (j .head) (j .old) img′ p ≡ Found (blockAt B img (blockList (j .head) (j .old)) (indexAt B p))
       looks img′ c′ st p l =
           ap Found (others-stand B N (Rest ks₀) img img′ (c .sized) st (j .head) (j .old) short so cl .blocks (indexAt B p) (used B N (c .sized) p (j .old) l short))

@@ -4,15 +4,15 @@ use mathlib.Core.List.{List}
 use Prim.Native.Nat.{ℕ, zero, suc, _-_, _^_, _≤_, _<_}
 use native.Mathlib.Omega.{arith}
 use Rattle.layout.specs.Layout.{pointers, start, indexAt}
-use Rattle.layout.specs.Place.{Sized}
 use Rattle.layout.proofs.Laws.{start-mono, pointers-zero, pointers-pos}
-use Rattle.card.specs.Blocks.{pointer}
-use Rattle.ctz.specs.Lists.{down, SoundList}
-use Rattle.writes.specs.Lists.{blockAt, Holds}
+use Rattle.ctz.specs.Lists.{down, SoundList, blockAt}
 use Rattle.writes.proofs.Index.{index-le}
-use Rattle.writes.proofs.Holds.{used, renames, at-is}
+use Rattle.writes.proofs.Holds.{used, renames, at-is, Holds}
+use Rattle.layout.specs.inner.Served.{BlockSized, blockList}
+use Rattle.card.specs.Card.{pointer}
+use Rattle.card.specs.inner.Cards.{cardWith}
 
-module _ (B N : ℕ) (sized : Sized B) (img : List ℕ) (head s : ℕ) (short : s < 2 ^ 32) where
+module _ (B N : ℕ) (sized : BlockSized B) (img : List ℕ) (head s : ℕ) (short : s < 2 ^ 32) where
   abbrev top : ℕ
   top = indexAt B (s - 1)
 
@@ -25,12 +25,12 @@ module _ (B N : ℕ) (sized : Sized B) (img : List ℕ) (head s : ℕ) (short : 
   in-use p i l = omega (arith, start-mono B i top l, used B N sized (s - 1) s (omega arith) short)
 
   -- pointer 0 of a block leads to the block below
-  step : (i : ℕ) → suc i ≤ top → pointer img B (blockAt img B head s (suc i)) 0 ≡ blockAt img B head s i
+  step : (i : ℕ) → suc i ≤ top → pointer B img (blockAt B img (blockList head s) (suc i)) 0 ≡ blockAt B img (blockList head s) i
   unfolding down
   step i l = let e : top - i ≡ suc (top - suc i) = omega arith in rw e
 
   -- a sound list is carried by its blocks
-  pub list-holds : SoundList img B N head s → Holds B N img (blockAt img B head s) s
+  pub list-holds : SoundList (cardWith B N img) (blockList head s) → Holds B N img (blockAt B img (blockList head s)) s
   list-holds l = record {
     short = short;
     low = λ i u. l .list (omega arith) .below i (low i u);
@@ -38,16 +38,16 @@ module _ (B N : ℕ) (sized : Sized B) (img : List ℕ) (head s : ℕ) (short : 
     points = λ i x u g. points i x u g;
   }
     where
-      points : (i x : ℕ) → start B i < s → x < pointers i → pointer img B (blockAt img B head s i) x ≡ blockAt img B head s (i - 2 ^ x)
+      points : (i x : ℕ) → start B i < s → x < pointers i → pointer B img (blockAt B img (blockList head s) i) x ≡ blockAt B img (blockList head s) (i - 2 ^ x)
       points zero x u g = absurd (omega (arith, pointers-zero))
-      points (suc i) zero u g = step i (low (suc i) u) ∙ ap (blockAt img B head s) (omega arith)
+      points (suc i) zero u g = step i (low (suc i) u) ∙ ap (blockAt B img (blockList head s)) (omega arith)
       points (suc i) (suc x) u g =
           l .list (omega arith) .agree (suc i) (suc x) (omega arith) (low (suc i) u) (omega arith)
           (omega (arith, pointers-pos (suc i) (λ z. omega arith)))
 
   -- blocks that carry a list whose head is the block of its last byte make it sound
   pub holds-list : (f : ℕ → ℕ) → Holds B N img f s → (0 < s → f (indexAt B (s - 1)) ≡ head) → (s ≡ 0 → head ≡ 4294967295)
-      → SoundList img B N head s
+      → SoundList (cardWith B N img) (blockList head s)
   holds-list f h t n = record {
     null = n;
     list = λ p. record {
@@ -57,5 +57,5 @@ module _ (B N : ℕ) (sized : Sized B) (img : List ℕ) (head s : ℕ) (short : 
     };
   }
     where
-      r : Holds B N img (blockAt img B head s) s
-      r = renames B N sized img f (blockAt img B head s) s (at-is B N sized img f head s h t) h
+      r : Holds B N img (blockAt B img (blockList head s)) s
+      r = renames B N sized img f (blockAt B img (blockList head s)) s (at-is B N sized img f head s h t) h

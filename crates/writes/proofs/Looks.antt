@@ -7,12 +7,13 @@ use native.Mathlib.Omega.{arith}
 use borrow.Author.Tests.{ltb-true}
 use lib.Dec.{ltb}
 use lib.ListN.{length}
-use Rattle.layout.specs.Layout.{start, InBlock, indexAt}
-use Rattle.layout.specs.Place.{Sized}
+use Rattle.layout.specs.Layout.{start, indexAt}
 use Rattle.layout.proofs.Laws.{start-mono}
 use Rattle.layout.proofs.Places.{index-mono}
 use Rattle.store.specs.Write.{Job, new, kept, over, Look, Found, starts, when, wanted, looked}
 use Rattle.writes.proofs.Index.{in-block, start-lt}
+use Rattle.layout.specs.inner.Served.{BlockSized}
+use Rattle.layout.proofs.InBlock.{InBlock}
 
 -- every position of a list is below a bound
 abbrev Under : ℕ → List ℕ → Type 0
@@ -32,14 +33,14 @@ unfolding starts
 under-starts B n i zero h = tt
 under-starts B n i (suc m) h = (h i (omega arith), under-starts B n (suc i) m (λ k l. h k (omega arith)))
 
-all-looked : (look : List ℕ → ℕ → Look) (img : List ℕ) (n : ℕ) → ((p : ℕ) → p < n → (k : ℕ) × (look img p ≡ Found k)) → (ps : List ℕ) → Under n ps → looked look img ps ≡ true
+all-looked : (look : List ℕ → ℕ → Look) (img : List ℕ) (n : ℕ) → ((p : ℕ) → p < n → (k : ℕ) × (look img p ≡ Found k)) → (ps : List ℕ) → Under n ps → looked (look img) ps ≡ true
 unfolding looked
 all-looked look img n h [] u = refl
 all-looked look img n h (p ∷ ps) u = rw (looked, h p (u .0) .1) (all-looked look img n h ps (u .1))
 
 -- Where every position of the old file is found, so are all that a write looks up.
 pub wanted-looked : (look : List ℕ → ℕ → Look) (img : List ℕ) (B : ℕ) (j : Job) → ((p : ℕ) → p < j .old → (k : ℕ) × (look img p ≡ Found k))
-    → Sized B → new j < 2 ^ 32 → 0 < length (j .src) → looked look img (wanted B j) ≡ true
+    → BlockSized B → new j < 2 ^ 32 → 0 < length (j .src) → looked (look img) (wanted B j) ≡ true
 unfolding wanted
 wanted-looked look img B j h sized fits some =
     all-looked look img (j .old) h (wanted B j)

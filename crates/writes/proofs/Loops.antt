@@ -9,19 +9,21 @@ use borrow.Author.Tests.{ltb-true, ltb-false}
 use lib.Dec.{ltb}
 use lib.ListN.{length}
 use Rattle.layout.specs.Layout.{indexAt, offsetAt}
-use Rattle.card.specs.Card.{Card}
 use Rattle.device.specs.Device.{refusesProgram}
 use Rattle.grow.specs.declared.Growth.the-variants.{Full}
-use Rattle.grow.specs.Supply.{Took}
-use Rattle.grow.specs.Grow.{GrowOut, growOf}
-use Rattle.store.specs.Write.{Job, new, Written, NoRoom, WriteOut, writeOf, grownOf, Look}
-use Rattle.writes.specs.Lists.{put}
-use Rattle.writes.specs.Allocator.{Stays, Allocator}
+use Rattle.store.specs.Write.{Job, new, Look}
 use Rattle.writes.proofs.Grows.{Growing, Got, growing}
 use Rattle.writes.proofs.Fills.{filling}
 use Rattle.writes.proofs.Widths.{share}
-use Rattle.writes.proofs.States.{Begin, State, stood, passed}
+use Rattle.writes.proofs.States.{Begin, Between, stood, passed}
 use Rattle.writes.proofs.Turns.{turned, tail-block, room}
+use Rattle.writes.proofs.Grown.{put}
+use Rattle.writes.proofs.Allocators.{Stays, Allocator}
+use Rattle.trials.specs.Loop.{Took, Written, NoRoom, WriteOut}
+use Rattle.grow.specs.Extend.{GrowOut}
+use Rattle.grow.specs.inner.Grow.{growOf}
+use Rattle.store.specs.inner.Write.{grownOf, writeOf}
+use Rattle.card.specs.inner.Cards.{CardFacts}
 
 module _ {W : Type 0} (look : List ℕ → ℕ → Look) (B N : ℕ) (health : List ℕ) (tries : W → ℕ) (alloc : W → List ℕ → Took W)
     (L : ℕ → Type 0) (Ok : W → List ℕ → List ℕ → Type 0)
@@ -32,12 +34,12 @@ module _ {W : Type 0} (look : List ℕ → ℕ → Look) (B N : ℕ) (health : L
 
   -- How a write ends: all is written, or the blocks ran out.
   pub data Ended (img₀ : List ℕ) (f₀ : ℕ → ℕ) (o : WriteOut W) : Type 0 where
-    done : (out : List ℕ) (f : ℕ → ℕ) (h : ℕ) → o .answer ≡ Written h (new j) → State B N j L Ok img₀ f₀ (o .rest) out (o .image) f h (new j) → Ended img₀ f₀ o
-    short : (out : List ℕ) → o .answer ≡ NoRoom → Card B N (length (o .image)) → Ok (o .rest) out (o .image) → Stays B L img₀ (o .image) → Ended img₀ f₀ o
+    done : (out : List ℕ) (f : ℕ → ℕ) (h : ℕ) → o .answer ≡ Written h (new j) → Between B N j L Ok img₀ f₀ (o .rest) out (o .image) f h (new j) → Ended img₀ f₀ o
+    short : (out : List ℕ) → o .answer ≡ NoRoom → CardFacts B N (length (o .image)) → Ok (o .rest) out (o .image) → Stays B L img₀ (o .image) → Ended img₀ f₀ o
 
   module _ (img₀ : List ℕ) (f₀ : ℕ → ℕ) (b : Begin look B N j L img₀ f₀) where
     -- from a state between two growths on, the loop ends in one of the two ways
-    pub writing : (m : ℕ) (w : W) (out img : List ℕ) (f : ℕ → ℕ) (h s : ℕ) → State B N j L Ok img₀ f₀ w out img f h s
+    pub writing : (m : ℕ) (w : W) (out img : List ℕ) (f : ℕ → ℕ) (h s : ℕ) → Between B N j L Ok img₀ f₀ w out img f h s
         → Ended img₀ f₀ (writeOf look tries alloc m health B N j w h s img)
     unfolding writeOf grownOf
     writing zero w out img f h s st = short out refl (st .card) (st .ok) (st .stays)
@@ -48,13 +50,13 @@ module _ {W : Type 0} (look : List ℕ → ℕ → Look) (B N : ℕ) (health : L
 
         step : (x : Bool) → ltb s (new j) ≡ x
             → (next w h s img .answer ≡ Full) ⊎ ((k : ℕ) × Got B N health tries alloc L Ok al out img f s (next w h s img) (g .out′) k)
-            → ((w₁ : W) (out₁ img₁ : List ℕ) (f₁ : ℕ → ℕ) (h₁ s₁ : ℕ) → State B N j L Ok img₀ f₀ w₁ out₁ img₁ f₁ h₁ s₁
+            → ((w₁ : W) (out₁ img₁ : List ℕ) (f₁ : ℕ → ℕ) (h₁ s₁ : ℕ) → Between B N j L Ok img₀ f₀ w₁ out₁ img₁ f₁ h₁ s₁
             → Ended img₀ f₀ (writeOf look tries alloc m health B N j w₁ h₁ s₁ img₁))
             → Ended img₀ f₀ (writeOf look tries alloc (suc m) health B N j w h s img)
         step false e r ih =
             let q : s ≡ new j = le-antisymm (st .until) (ltb-false s (new j) e) in
             rw (writeOf, e)
-            (done out f h (ap (Written h) q) (subst (λ (z : ℕ). State B N j L Ok img₀ f₀ w out img f h z) q st))
+            (done out f h (ap (Written h) q) (subst (λ (z : ℕ). Between B N j L Ok img₀ f₀ w out img f h z) q st))
         step true e (inl a) ih =
             rw (writeOf, e, grownOf, a)
             (short (g .out′) refl (g .card) (g .ok) (stood B N health tries alloc L Ok al j img₀ f₀ w out img f h s st _ g))

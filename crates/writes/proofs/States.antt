@@ -3,22 +3,21 @@ use mathlib.Core.Path.{_≡_, _∙_}
 use mathlib.Core.Logic.{_≢_, inl, inr}
 use mathlib.Core.List.{List}
 use Prim.Native.Nat.{ℕ, _-_, _^_, _≤_, _<_}
-use lib.ListN.{length, getD}
+use lib.ListN.{length}
 use Rattle.layout.specs.Layout.{start, indexAt}
-use Rattle.card.specs.Card.{Card}
-use Rattle.grow.specs.Supply.{Took}
-use Rattle.grow.specs.Grow.{GrowOut}
 use Rattle.store.specs.Write.{Job, new, kept, Look, Found}
-use Rattle.writes.specs.Cells.{cell, byteAt, bytes}
-use Rattle.writes.specs.Lists.{Holds}
-use Rattle.writes.specs.Allocator.{Known, Stays, Allocator}
-use Rattle.writes.specs.Plain.{plainWrite}
-use Rattle.writes.proofs.Holds.{moves, byte-moves}
+use Rattle.writes.proofs.Plain.{overAt}
+use Rattle.writes.proofs.Holds.{moves, byte-moves, Holds}
 use Rattle.writes.proofs.Grows.{Growing}
+use Rattle.writes.proofs.Cells.{cell, byteBy, bytesBy}
+use Rattle.writes.proofs.Allocators.{Standing, Stays, Allocator}
+use Rattle.trials.specs.Loop.{Took}
+use Rattle.grow.specs.Extend.{GrowOut}
+use Rattle.card.specs.inner.Cards.{CardFacts}
 
 -- what the file reads as in the end
 abbrev pub want : ℕ → Job → List ℕ → (ℕ → ℕ) → ℕ → ℕ
-want B j img f p = getD (plainWrite (bytes B img f (j .old)) (j .pos) (j .src)) p 0
+want B j img f p = overAt (bytesBy B img f (j .old)) (j .pos) (j .src) p
 
 -- the write's beginning: the image and the old list, whose blocks are listed
 pub record Begin (look : List ℕ → ℕ → Look) (B N : ℕ) (j : Job) (L : ℕ → Type 0) (img : List ℕ) (f : ℕ → ℕ) : Type 0 where
@@ -26,18 +25,18 @@ pub record Begin (look : List ℕ → ℕ → Look) (B N : ℕ) (j : Job) (L : �
   pub clear : (i : ℕ) → start B i < j .old → L (f i)
   pub fits : new j < 2 ^ 32
   -- lookups find the old list's blocks as long as the listed blocks stand
-  pub looks : (img′ : List ℕ) → Card B N (length img′) → Stays B L img img′ → (p : ℕ) → p < j .old → look img′ p ≡ Found (f (indexAt B p))
+  pub looks : (img′ : List ℕ) → CardFacts B N (length img′) → Stays B L img img′ → (p : ℕ) → p < j .old → look img′ p ≡ Found (f (indexAt B p))
 
 -- between two growths: (h, s) is a sound list with blocks f, and holds the front of the file to be
-pub record State {W : Type 0} (B N : ℕ) (j : Job) (L : ℕ → Type 0) (Ok : W → List ℕ → List ℕ → Type 0) (img₀ : List ℕ) (f₀ : ℕ → ℕ)
+pub record Between {W : Type 0} (B N : ℕ) (j : Job) (L : ℕ → Type 0) (Ok : W → List ℕ → List ℕ → Type 0) (img₀ : List ℕ) (f₀ : ℕ → ℕ)
     (w : W) (out img : List ℕ) (f : ℕ → ℕ) (h s : ℕ) : Type 0 where
-  pub card : Card B N (length img)
+  pub card : CardFacts B N (length img)
   pub ok : Ok w out img
   pub holds : Holds B N img f s
   pub top : 0 < s → f (indexAt B (s - 1)) ≡ h
-  pub clear : (i : ℕ) → start B i < s → Known L out (f i)
+  pub clear : (i : ℕ) → start B i < s → Standing L out (f i)
   pub stays : Stays B L img₀ img
-  pub reads : (p : ℕ) → p < s → byteAt B img f p ≡ want B j img₀ f₀ p
+  pub reads : (p : ℕ) → p < s → byteBy B img f p ≡ want B j img₀ f₀ p
   pub from : kept j ≤ s
   pub until : s ≤ new j
   -- blocks below the index of the first byte that changes are kept; none from there on is listed
@@ -48,19 +47,19 @@ module _ {W : Type 0} (B N : ℕ) (health : List ℕ) (tries : W → ℕ) (alloc
     (L : ℕ → Type 0) (Ok : W → List ℕ → List ℕ → Type 0)
     (al : Allocator B N tries alloc L Ok)
     (j : Job) (img₀ : List ℕ) (f₀ : ℕ → ℕ) (w₀ : W) (out img : List ℕ) (f : ℕ → ℕ) (h s : ℕ)
-    (st : State B N j L Ok img₀ f₀ w₀ out img f h s) (o : GrowOut W)
+    (st : Between B N j L Ok img₀ f₀ w₀ out img f h s) (o : GrowOut W)
     (g : Growing B N health tries alloc L Ok al out img f s o) where
   -- the listed blocks stand over this growth
   pub stood : Stays B L img₀ (o .image)
   stood k o′ u l = g .stays k o′ (inl u) l ∙ st .stays k o′ u l
 
   -- what was known still is
-  pub known : {k : ℕ} → Known L out k → Known L (g .out′) k
+  pub known : {k : ℕ} → Standing L out k → Standing L (g .out′) k
   known (inl a) = inl a
   known {k} (inr a) = inr (g .less k a)
 
   -- a growth whose block is not used
-  pub passed : State B N j L Ok img₀ f₀ (o .rest) (g .out′) (o .image) f h s
+  pub passed : Between B N j L Ok img₀ f₀ (o .rest) (g .out′) (o .image) f h s
   passed =
       let sized = st .card .sized in
       let a : (i o′ : ℕ) → start B i < s → o′ < B → cell B (o .image) (f i) o′ ≡ cell B img (f i) o′ = λ i o′ u l. g .stays (f i) o′ (st .clear i u) l in

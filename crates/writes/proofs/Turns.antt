@@ -8,32 +8,32 @@ use native.Mathlib.Omega.{arith}
 use borrow.Author.Tests.{eqb-true, eqb-false}
 use lib.Dec.{eqb}
 use lib.ListN.{length, List·getD-eq-default}
-use Rattle.layout.specs.Layout.{start, InBlock, indexAt, offsetAt}
-use Rattle.layout.specs.Place.{Sized}
+use Rattle.layout.specs.Layout.{start, indexAt, offsetAt}
 use Rattle.layout.proofs.Places.{offset-past, index-mono}
-use Rattle.card.specs.Card.{Card}
-use Rattle.grow.specs.Supply.{Took}
-use Rattle.grow.specs.Grow.{GrowOut}
-use Rattle.store.specs.Write.{Job, new, kept, over, fronted, Look, Found}
-use Rattle.writes.specs.Cells.{cell, byteAt, bytes}
-use Rattle.writes.specs.Lists.{Holds, put}
-use Rattle.writes.specs.Allocator.{Known, Stays, Allocator}
-use Rattle.writes.proofs.Cells.{pointer-same}
+use Rattle.store.specs.Write.{Job, new, kept, over, Look, Found}
+use Rattle.writes.proofs.Cells.{pointer-same, cell, byteBy, bytesBy}
 use Rattle.writes.proofs.Index.{offset-is, roomy}
-use Rattle.writes.proofs.Holds.{either, byte-at, moves, byte-moves, bytes-length, bytes-at}
-use Rattle.writes.proofs.Grown.{Made, earlier, grown, grown-old, grown-new, put-same, put-other}
+use Rattle.writes.proofs.Holds.{either, byte-at, moves, byte-moves, bytes-length, bytes-at, Holds}
+use Rattle.writes.proofs.Grown.{Made, earlier, grown, grown-old, grown-new, put-same, put-other, put}
 use Rattle.writes.proofs.Grows.{Growing, Got}
 use Rattle.writes.proofs.Fills.{Filled, front-others, front-card}
-use Rattle.writes.proofs.Plain.{plain-low, plain-mid, plain-high}
+use Rattle.writes.proofs.Plain.{over-low, over-mid, over-high}
 use Rattle.writes.proofs.Widths as widths
 use Rattle.writes.proofs.Widths.{share}
-use Rattle.writes.proofs.States.{want, Begin, State, stood, known}
+use Rattle.writes.proofs.States.{want, Begin, Between, stood, known}
+use Rattle.writes.proofs.Allocators.{Standing, Stays, Allocator}
+use Rattle.trials.specs.Loop.{Took}
+use Rattle.grow.specs.Extend.{GrowOut}
+use Rattle.store.specs.inner.Write.{fronted}
+use Rattle.layout.specs.inner.Served.{BlockSized}
+use Rattle.layout.proofs.InBlock.{InBlock}
+use Rattle.card.specs.inner.Cards.{CardFacts}
 
 module _ {W : Type 0} (look : List ℕ → ℕ → Look) (B N : ℕ) (health : List ℕ) (tries : W → ℕ) (alloc : W → List ℕ → Took W)
     (L : ℕ → Type 0) (Ok : W → List ℕ → List ℕ → Type 0)
     (al : Allocator B N tries alloc L Ok)
     (j : Job) (img₀ : List ℕ) (f₀ : ℕ → ℕ) (b : Begin look B N j L img₀ f₀) (w₀ : W) (out img : List ℕ) (f : ℕ → ℕ) (h s : ℕ)
-    (st : State B N j L Ok img₀ f₀ w₀ out img f h s) (o : GrowOut W)
+    (st : Between B N j L Ok img₀ f₀ w₀ out img f h s) (o : GrowOut W)
     (g : Growing B N health tries alloc L Ok al out img f s o)
     (k : ℕ) (w : Got B N health tries alloc L Ok al out img f s o (g .out′) k) (more : s < new j) where
   abbrev i : ℕ
@@ -45,7 +45,7 @@ module _ {W : Type 0} (look : List ℕ → ℕ → Look) (B N : ℕ) (health : L
   abbrev wd : ℕ
   wd = share B (new j) s
 
-  sized : Sized B
+  sized : BlockSized B
   sized = st .card .sized
 
   s32 : s < 2 ^ 32
@@ -86,7 +86,7 @@ module _ {W : Type 0} (look : List ℕ → ℕ → Look) (B N : ℕ) (health : L
       let ix : indexAt B (s + (e - s)) ≡ i = widths.index-at B sized (new j) s more (b .fits) (s + (e - s)) (omega arith) (omega arith) in
       let a : Stays B L img₀ front = λ k′ o′ v l.
       (front-others B N k off s wd (j .pos) (j .src) (o .image) (g .card) (w .low) room k′ o′ (m k′ v) l ∙ frame k′ o′ v l) in
-      let c : Card B N (length front) = front-card B N k off s wd (j .pos) (j .src) (o .image) (g .card) (w .low) room in
+      let c : CardFacts B N (length front) = front-card B N k off s wd (j .pos) (j .src) (o .image) (g .card) (w .low) room in
       (b .holds .low i u, m (f₀ i) (b .clear i u), b .looks front c a (s + (e - s)) ol ∙ ap (λ (z : ℕ). Found (f₀ z)) ix)
     where
       old-of : (ol e s r : ℕ) → e - s < min (max ol e - s) r → s + (e - s) < ol
@@ -120,7 +120,7 @@ module _ {W : Type 0} (look : List ℕ → ℕ → Look) (B N : ℕ) (health : L
     new-byte d l = go (either (s + d) (j .pos)) (either (s + d) (over j))
       where
         xs : List ℕ
-        xs = bytes B img₀ f₀ (j .old)
+        xs = bytesBy B img₀ f₀ (j .old)
 
         lx : length xs ≡ j .old
         lx = bytes-length B img₀ f₀ (j .old)
@@ -133,9 +133,9 @@ module _ {W : Type 0} (look : List ℕ → ℕ → Look) (B N : ℕ) (health : L
 
         go : (s + d < j .pos) ⊎ (j .pos ≤ s + d) → (s + d < over j) ⊎ (over j ≤ s + d) → cell B img′ k (off + d) ≡ want B j img₀ f₀ (s + d)
         go (inl a) c =
-            fl .gap d l a ∙ sym (plain-low xs (j .pos) (j .src) (s + d) a
+            fl .gap d l a ∙ sym (over-low xs (j .pos) (j .src) (s + d) a
             ∙ List·getD-eq-default xs 0 (rw lx (past-of (j .pos) (j .old) s d (st .from) a)))
-        go (inr a) (inl c) = fl .data-at d l a c ∙ sym (plain-mid xs (j .pos) (j .src) (s + d) a c)
+        go (inr a) (inl c) = fl .data-at d l a c ∙ sym (over-mid xs (j .pos) (j .src) (s + d) a c)
         go (inr a) (inr c) =
             let q : s + d < j .old = below-of (j .old) (over j) s d (B - off) l c in
             let e : offsetAt B (s + d) ≡ off + d =
@@ -143,10 +143,10 @@ module _ {W : Type 0} (look : List ℕ → ℕ → Look) (B N : ℕ) (health : L
             let ie : indexAt B (s + d) ≡ i = widths.index-at B sized (new j) s more (b .fits) (s + d) (omega arith) (omega arith) in
             let u : start B i < j .old = omega (arith, is .from) in
             fl .tail d l c ∙ frame (f₀ i) (off + d) (b .clear i u) (omega (arith, room))
-            ∙ sym (plain-high xs (j .pos) (j .src) (s + d) c ∙ bytes-at B img₀ f₀ (j .old) (s + d) q ∙ byte-at B img₀ f₀ (s + d) i (off + d) ie e)
+            ∙ sym (over-high xs (j .pos) (j .src) (s + d) a c ∙ bytes-at B img₀ f₀ (j .old) (s + d) q ∙ byte-at B img₀ f₀ (s + d) i (off + d) ie e)
 
     -- After the turn the list is one block longer, and is again the front of the file to be.
-    pub turned : State B N j L Ok img₀ f₀ (o .rest) (g .out′) img′ (put f (indexAt B s) k) k (s + share B (new j) s)
+    pub turned : Between B N j L Ok img₀ f₀ (o .rest) (g .out′) img′ (put f (indexAt B s) k) k (s + share B (new j) s)
     turned = record {
       card = fl .card;
       ok = al .frame (o .rest) (g .out′) (o .image) img′ (g .ok) (fl .card) (λ k′ o′ u l. fl .others k′ o′ (w .mine k′ (inl u)) l);
@@ -164,13 +164,13 @@ module _ {W : Type 0} (look : List ℕ → ℕ → Look) (B N : ℕ) (health : L
         before : (i′ : ℕ) → start B i′ < s + wd → i′ ≢ i → (i′ < i) × (start B i′ < s)
         before i′ u ne = earlier B N sized (w .mid) img′ f s k i hm refl (w .low) free made (s + wd) i′ ends u ne
 
-        clear-at : (i′ : ℕ) → start B i′ < s + wd → (t : Bool) → eqb i′ i ≡ t → Known L (g .out′) (put f i k i′)
-        clear-at i′ u true e = subst (λ (z : ℕ). Known L (g .out′) z) (sym (ap (put f i k) (eqb-true i′ i e) ∙ put-same f i k)) (inr (w .fresh))
+        clear-at : (i′ : ℕ) → start B i′ < s + wd → (t : Bool) → eqb i′ i ≡ t → Standing L (g .out′) (put f i k i′)
+        clear-at i′ u true e = subst (λ (z : ℕ). Standing L (g .out′) z) (sym (ap (put f i k) (eqb-true i′ i e) ∙ put-same f i k)) (inr (w .fresh))
         clear-at i′ u false e =
-            subst (λ (z : ℕ). Known L (g .out′) z) (sym (put-other f i k i′ (eqb-false i′ i e)))
+            subst (λ (z : ℕ). Standing L (g .out′) z) (sym (put-other f i k i′ (eqb-false i′ i e)))
             (known B N health tries alloc L Ok al j img₀ f₀ w₀ out img f h s st o g (st .clear i′ (before i′ u (eqb-false i′ i e) .1)))
 
-        read-at : (p : ℕ) → p < s + wd → (p < s) ⊎ (s ≤ p) → byteAt B img′ (put f i k) p ≡ want B j img₀ f₀ p
+        read-at : (p : ℕ) → p < s + wd → (p < s) ⊎ (s ≤ p) → byteBy B img′ (put f i k) p ≡ want B j img₀ f₀ p
         read-at p l (inl a) =
             grown-old B N sized (w .mid) img′ f s k i hm refl (w .low) free made p a ∙ byte-moves B N sized img (w .mid) f s s32 kin p a ∙ st .reads p a
         read-at p l (inr a) =

@@ -1,22 +1,24 @@
 -- A new block's share: from position s of its index on, the rest of the block or of the file to be, n bytes in all. Assumes nothing.
 use mathlib.Core.Path.{_≡_}
 use mathlib.Core.Logic.{_⊎_, inl, inr}
+use mathlib.Core.Bool.{true, false}
 use Prim.Native.Nat.{ℕ, suc, _+_, _-_, _*_, _^_, _≤_, _<_, min}
 use native.Mathlib.Omega.{arith}
 use borrow.Author.Tests.{lt-ltb, le-ltb}
-use Rattle.layout.specs.Layout.{pointers, start, InBlock, indexAt, offsetAt}
-use Rattle.layout.specs.Place.{Sized}
+use lib.Dec.{ltb}
+use Rattle.layout.specs.Layout.{pointers, start, indexAt, offsetAt}
 use Rattle.layout.proofs.Places.{start-suc}
 use Rattle.store.specs.Write.{Job, new}
-use Rattle.writes.specs.Plain.{need}
 use Rattle.writes.proofs.Index.{in-block, roomy, index-is, index-le, offset-is, start-index}
 use Rattle.writes.proofs.Holds.{either}
+use Rattle.layout.specs.inner.Served.{BlockSized}
+use Rattle.layout.proofs.InBlock.{InBlock}
 
 -- how many of n bytes go into the block of position s
 abbrev pub share : ℕ → ℕ → ℕ → ℕ
 share B n s = min (n - s) (B - offsetAt B s)
 
-module _ (B : ℕ) (sized : Sized B) (n s : ℕ) (more : s < n) (fits : n < 2 ^ 32) where
+module _ (B : ℕ) (sized : BlockSized B) (n s : ℕ) (more : s < n) (fits : n < 2 ^ 32) where
   abbrev i : ℕ
   i = indexAt B s
 
@@ -94,8 +96,12 @@ module _ (B : ℕ) (sized : Sized B) (n s : ℕ) (more : s < n) (fits : n < 2 ^ 
   last : n ≤ s + share B n s → n ≤ start B (suc i)
   last g = omega (arith, ends)
 
+-- How many blocks a write has yet to fill from position s on: at its first position that is what 01 says it needs, and none at its end.
+unfoldable pub need : ℕ → Job → ℕ → ℕ
+need B j s = elim (ltb s (new j)) [ true ↦ indexAt B (new j - 1) - indexAt B s + 1 | false ↦ 0 ]
+
 -- one block less to go
-pub needs : (B : ℕ) → Sized B → (j : Job) (s : ℕ) → s < new j → new j < 2 ^ 32 → need B j s ≡ suc (need B j (s + share B (new j) s))
+pub needs : (B : ℕ) → BlockSized B → (j : Job) (s : ℕ) → s < new j → new j < 2 ^ 32 → need B j s ≡ suc (need B j (s + share B (new j) s))
 unfolding need
 needs B sized j s more fits = rw (need, lt-ltb s (new j) more) (go (either (s + share B (new j) s) (new j)))
   where

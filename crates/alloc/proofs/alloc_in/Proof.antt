@@ -8,9 +8,10 @@ use Rattle.alloc.proofs.Turning.{Allocating, allocating, answers-block,
 use borrow.Author.Needs.{needs}
 use Rattle.alloc.proofs.alloc_in.Statement.{statement}
 use Rattle.alloc.proofs.alloc_in.Tie as tie
+use Rattle.card.specs.inner.Cards.{cardWith}
 
 abbrev Inv-loop : tie.InvT-loop
-Inv-loop b n l image t v₀ v = Allocating n l (seenIn b n image t) v₀ v
+Inv-loop b n l image t v₀ v = Allocating n l (seenIn (cardWith b n image) t) v₀ v
 
 abbrev μ-loop : tie.MeasureT-loop
 μ-loop b n l image t v₀ v = left v

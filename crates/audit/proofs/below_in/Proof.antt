@@ -2,15 +2,15 @@
 use mathlib.Core.Path.{_≡_, sym, ap, _∙_}
 use Prim.Native.Nat.{ℕ, _-_, _≤_}
 use native.Mathlib.Omega.{arith}
-use Rattle.card.specs.Blocks.{pointer}
 use Rattle.ctz.specs.Lists.{down}
 use Rattle.ctz.proofs.Room.{first-asked}
 use Rattle.audit.proofs.Further.{down-next, down-none}
 use Rattle.audit.proofs.below_in.Statement.{statement}
 use Rattle.audit.proofs.below_in.Tie as tie
+use Rattle.card.specs.Card.{pointer}
 
 abbrev Inv-loop : tie.InvT-loop
-Inv-loop b n image k d at₀ i₀ at i = (i ≤ d) × (at ≡ down (pointer image b) k i)
+Inv-loop b n image k d at₀ i₀ at i = (i ≤ d) × (at ≡ down (pointer b image) k i)
 
 abbrev μ-loop : tie.MeasureT-loop
 μ-loop b n image k d at₀ i₀ at i = d - i
@@ -35,7 +35,7 @@ loop-again c =
     let l = c .before .before .loop in
     let a = c .before .before .before .before .args in (
       omega arith,
-      c .pointer .ensures ∙ ap (λ (q : ℕ). pointer (a .image .now) (a .b) q 0) (l .inv .1) ∙ sym (down-next (pointer (a .image .now) (a .b)) (a .k) (l .i)),
+      c .pointer .ensures ∙ ap (λ (q : ℕ). pointer (a .b) (a .image .now) q 0) (l .inv .1) ∙ sym (down-next (pointer (a .b) (a .image .now)) (a .k) (l .i)),
     )
 
 returns : tie.Need-returns Inv-loop μ-loop
@@ -43,7 +43,7 @@ returns c =
     let l = c .before .loop in
     let a = c .before .before .before .args in
     let all : l .i ≡ a .d = omega arith in
-    l .inv .1 ∙ ap (λ (e : ℕ). down (pointer (a .image .now) (a .b)) (a .k) e) all
+    l .inv .1 ∙ ap (λ (e : ℕ). down (pointer (a .b) (a .image .now)) (a .k) e) all
 
 pub below-in-spec : {M : Type 1} → statement M
 below-in-spec =

@@ -7,7 +7,7 @@ use borrow.Author.Needs.{needs}
 use borrow.Author.Tests.{not-true, not-false}
 use lib.ListN.{length}
 use Rattle.layout.proofs.Served.{served}
-use Rattle.card.specs.Card.{goodCard, Card}
+use Rattle.card.specs.Card.{goodCard}
 use Rattle.card.proofs.Cards.{card}
 use Rattle.ctz.proofs.Room.{walks}
 use Rattle.audit.proofs.Falling.{falls-below}
@@ -15,6 +15,8 @@ use Rattle.audit.proofs.Further.{then-sound, then-unsound, then-refused
 use Rattle.audit.proofs.Checks.{check-card, check-large, check-empty, check-head, check-list}
 use Rattle.audit.proofs.ctz_check.Statement.{statement}
 use Rattle.audit.proofs.ctz_check.Tie as tie
+use Rattle.card.specs.inner.Cards.{CardFacts}
+use Rattle.layout.specs.inner.Served.{geometry}
 
 good-card-requires : tie.Need-good-card-requires
 good-card-requires c κs = search needs
@@ -25,12 +27,12 @@ returns c = check-card _ _ _ _ _ (sym (c .before .good-card .ensures) ∙ not-tr
 -- past the first test the card is good
 good : (c : tie.Else1)
     → let a = c .before .before .before .args in
-    goodCard (a .g .«block_size») (a .g .«block_count») (length (now (a .image))) ≡ true
+    goodCard (geometry (a .g .«block_size») (a .g .«block_count»)) (length (now (a .image))) ≡ true
 good c = sym (c .before .good-card .ensures) ∙ not-false _ (c .if1 .left)
 
 the-card : (c : tie.Else1)
     → let a = c .before .before .before .args in
-    Card (a .g .«block_size») (a .g .«block_count») (length (now (a .image)))
+    CardFacts (a .g .«block_size») (a .g .«block_count») (length (now (a .image)))
 the-card c = card _ _ _ (good c)
 
 returns-2 : tie.Need-returns-2

@@ -4,17 +4,18 @@ use Prim.Native.Nat.{ℕ, _+_, _-_, _^_, _≤_}
 use native.Mathlib.Nat.{add-sub-cancel}
 use native.Mathlib.Omega.{arith}
 use Rattle.hops.specs.Walk.{ctz}
-use Rattle.card.specs.Blocks.{pointer}
 use Rattle.ctz.specs.Lists.{down}
 use Rattle.ctz.proofs.Room.{asked}
 use Rattle.audit.specs.Check.{names}
 use Rattle.audit.proofs.Further.{stored-within, stored-width, fewer, head-below, names-none, names-differ, names-on}
 use Rattle.audit.proofs.pointers_at.Statement.{statement}
 use Rattle.audit.proofs.pointers_at.Tie as tie
+use Rattle.card.specs.Card.{pointer}
+use Rattle.audit.specs.inner.Bounds.{holder}
 
 abbrev Inv-loop : tie.InvT-loop
 Inv-loop b n image i k zeros x₀ x =
-    (1 ≤ x) × (x ≤ zeros + 1) × (names (pointer image b) zeros i k 1 ≡ names (pointer image b) (zeros + 1 - x) i k x)
+    (1 ≤ x) × (x ≤ zeros + 1) × (names (pointer b image) zeros (holder i k) 1 ≡ names (pointer b image) (zeros + 1 - x) (holder i k) x)
 
 abbrev μ-loop : tie.MeasureT-loop
 μ-loop b n image i k zeros x₀ x = zeros + 1 - x
@@ -42,10 +43,10 @@ below-in-requires c κs =
 -- the number met is the one that lies 2 to the x below
 met : (c : tie.After-below-in Inv-loop μ-loop)
     → let a = c .before .before .before .before .before .before .args in
-    c .below-in .result ≡ down (pointer (a .image .now) (a .b)) (a .k) (2 ^ c .before .before .before .before .loop .x)
+    c .below-in .result ≡ down (pointer (a .b) (a .image .now)) (a .k) (2 ^ c .before .before .before .before .loop .x)
 met c =
     let a = c .before .before .before .before .before .before .args in
-    c .below-in .ensures ∙ ap (λ (d : ℕ). down (pointer (a .image .now) (a .b)) (a .k) d) (c .before .power .ensures)
+    c .below-in .ensures ∙ ap (λ (d : ℕ). down (pointer (a .b) (a .image .now)) (a .k) d) (c .before .power .ensures)
 
 returns : tie.Need-returns Inv-loop μ-loop
 returns c =
@@ -66,7 +67,7 @@ loop-again c =
       omega arith,
       omega arith,
       l .inv .2 ∙ names-on _ _ _ _ _ _ _ (omega arith) (c .before .before .before .pointer .ensures) (met (c .before)) (c .if1 .left)
-          ∙ ap (λ (m : ℕ). names (pointer (a .image .now) (a .b)) m (a .i) (a .k) (l .x + 1)) left,
+          ∙ ap (λ (m : ℕ). names (pointer (a .b) (a .image .now)) m (holder (a .i) (a .k)) (l .x + 1)) left,
     )
 
 returns-2 : tie.Need-returns-2 Inv-loop μ-loop

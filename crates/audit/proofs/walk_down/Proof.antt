@@ -4,16 +4,18 @@ use mathlib.Core.Path.{_≡_, refl, sym, ap, _∙_}
 use mathlib.Core.List.{List, [], _∷_}
 use Prim.Native.Nat.{ℕ, _-_, _<_}
 use native.Mathlib.Omega.{arith}
-use Rattle.card.specs.Blocks.{pointer}
 use Rattle.ctz.proofs.Room.{first-asked}
-use Rattle.audit.specs.Check.{among, falls}
+use Rattle.audit.specs.Check.{falls}
 use Rattle.audit.proofs.Falling.{Agrees, agree-none, agree-put, falls-far, falls-again, falls-end, falls-on}
 use Rattle.audit.proofs.walk_down.Statement.{statement}
 use Rattle.audit.proofs.walk_down.Tie as tie
+use Rattle.card.specs.Card.{pointer}
+use Rattle.ctz.specs.inner.Forms.{pointersWith}
+use Rattle.span.specs.Members.{has}
 
 abbrev Inv-loop : tie.InvT-loop
 Inv-loop b n image top head met₀ i₀ k₀ met i k =
-    (ms : List ℕ) × Agrees met ms × (falls (pointer image b) n top head [] ≡ falls (pointer image b) n i k ms)
+    (ms : List ℕ) × Agrees met ms × (falls (pointersWith n (pointer b image)) top head [] ≡ falls (pointersWith n (pointer b image)) i k ms)
 
 abbrev μ-loop : tie.MeasureT-loop
 μ-loop b n image top head met₀ i₀ k₀ met i k = i
@@ -28,7 +30,7 @@ test-requires : tie.Need-test-requires Inv-loop μ-loop
 test-requires c κs = omega arith
 
 -- the test answers whether the number was met
-told : (c : tie.After-test Inv-loop μ-loop) → let l = c .before .before .before .loop in c .test .result ≡ among (l .k) (l .inv .0)
+told : (c : tie.After-test Inv-loop μ-loop) → let l = c .before .before .before .loop in c .test .result ≡ has (l .inv .0) (l .k)
 told c =
     let l = c .before .before .before .loop in
     let k : l .k < 65536 = omega arith in
@@ -65,11 +67,11 @@ loop-again c =
     let l = e .before .before .before .before .loop in
     let a = e .before .before .before .before .before .before .args in
     let k : l .k < 65536 = omega arith in
-    let on = falls-on (pointer (a .image .now) (a .b)) _ _ _ _ (e .before .before .before .if1 .left) (sym (told (e .before)) ∙ e .if2 .left) (c .before .if3 .left) in (
+    let on = falls-on (pointer (a .b) (a .image .now)) _ _ _ _ (e .before .before .before .if1 .left) (sym (told (e .before)) ∙ e .if2 .left) (c .before .if3 .left) in (
       l .k ∷ l .inv .0,
       rw (c .before .before .put .ensures) (agree-put _ _ _ k (l .inv .1)),
       l .inv .2 ∙ on
-          ∙ ap (λ (q : ℕ). falls (pointer (a .image .now) (a .b)) (a .n) (l .i - 1) q (l .k ∷ l .inv .0)) (sym (c .pointer .ensures)),
+          ∙ ap (λ (q : ℕ). falls (pointersWith (a .n) (pointer (a .b) (a .image .now))) (l .i - 1) q (l .k ∷ l .inv .0)) (sym (c .pointer .ensures)),
     )
 
 pub walk-down-spec : {M : Type 1} → statement M

@@ -11,6 +11,7 @@ use Rattle.card.proofs.Cards.{card}
 use Rattle.ctz.proofs.Lookups.{lookup-card, lookup-large, lookup-empty, lookup-past, lookup-walks}
 use Rattle.ctz.proofs.ctz_find.Statement.{statement}
 use Rattle.ctz.proofs.ctz_find.Tie as tie
+use Rattle.layout.specs.inner.Served.{geometry}
 
 good-card-requires : tie.Need-good-card-requires
 good-card-requires c κs = search needs
@@ -21,7 +22,7 @@ returns c = lookup-card _ _ _ _ _ _ (sym (c .before .good-card .ensures) ∙ not
 -- past the first test the card is good
 good : (c : tie.Else1)
     → let a = c .before .before .before .args in
-    goodCard (a .g .«block_size») (a .g .«block_count») (length (now (a .image))) ≡ true
+    goodCard (geometry (a .g .«block_size») (a .g .«block_count»)) (length (now (a .image))) ≡ true
 good c = sym (c .before .good-card .ensures) ∙ not-false _ (c .if1 .left)
 
 returns-2 : tie.Need-returns-2

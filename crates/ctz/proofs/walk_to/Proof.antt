@@ -4,17 +4,18 @@ use mathlib.Core.Path.{_≡_, refl, sym, _∙_}
 use Prim.Native.Nat.{suc, _+_, _-_, _≤_, _<_}
 use native.Mathlib.Nat.{sub-zero}
 use native.Mathlib.Omega.{arith}
-use Rattle.card.specs.Blocks.{pointer}
 use Rattle.ctz.specs.Lookup.{walk}
 use Rattle.ctz.proofs.Room.{asked}
-use Rattle.ctz.proofs.Walked.{walk-damaged, walk-at, walk-hop, pick-stored, pick-width, jump}
+use Rattle.ctz.proofs.Walked.{walk-damaged, walk-at, walk-hop, pick-stored, pick-width, jump-down}
 use Rattle.ctz.proofs.walk_to.Statement.{statement}
 use Rattle.ctz.proofs.walk_to.Tie as tie
+use Rattle.card.specs.Card.{pointer}
+use Rattle.ctz.specs.inner.Forms.{pointersWith, target, stand}
 
 abbrev Inv-loop : tie.InvT-loop
 Inv-loop b n image off tgt top head cur₀ k₀ hops₀ cur k hops =
     (hops + cur ≤ top)
-    × (walk (suc top) (pointer image b) n off tgt top head 0 ≡ walk (suc (top - hops)) (pointer image b) n off tgt cur k hops)
+    × (walk (suc top) (pointersWith n (pointer b image)) (target tgt off) (stand top head 0) ≡ walk (suc (top - hops)) (pointersWith n (pointer b image)) (target tgt off) (stand cur k hops))
 
 abbrev μ-loop : tie.MeasureT-loop
 μ-loop b n image off tgt top head cur₀ k₀ hops₀ cur k hops = cur - tgt
@@ -50,7 +51,7 @@ falls : (c : tie.After-power Inv-loop μ-loop)
 falls c =
     let l = c .before .before .before .before .before .loop in
     let s = c .before .before .before .before .before .before .before in
-    jump (l .cur) (s .args .tgt) _ _ (c .before .before .skip .ensures) (c .power .ensures) (c .before .before .before .if2 .left)
+    jump-down (l .cur) (s .args .tgt) _ _ (c .before .before .skip .ensures) (c .power .ensures) (c .before .before .before .if2 .left)
     (omega (arith, l .inv .0, s .fits .top .fits))
 
 sub-cur : tie.Need-sub-cur Inv-loop μ-loop

@@ -5,7 +5,7 @@ use native.Mathlib.Omega.{arith}
 use borrow.Author.Needs.{needs}
 use lib.ListN.{length}
 use lib.Seq.{slice}
-use Rattle.files.specs.Find.{searchOf}
+use Rattle.files.specs.Table.{searchOf}
 use Rattle.files.proofs.Laws.{slots-ok, count-ok}
 use Rattle.files.proofs.Turns.{search-here, search-on, search-end}
 use Rattle.files.proofs.search.Statement.{statement}
@@ -14,7 +14,7 @@ use Rattle.layout.specs.Numbers.{filesMax}
 
 abbrev Inv-loop : tie.InvT-loop
 Inv-loop number t count i₀ i =
-    (length (t .files) ≡ filesMax) × (i ≤ count) × (count ≤ filesMax) × (searchOf 0 number (slice 0 count (t .files)) ≡ searchOf i number (slice i count (t .files)))
+    (length (t .files) ≡ filesMax) × (i ≤ count) × (count ≤ filesMax) × (searchOf number (slice 0 count (t .files)) 0 ≡ searchOf number (slice i count (t .files)) i)
 
 abbrev μ-loop : tie.MeasureT-loop
 μ-loop number t count i₀ i = count - i

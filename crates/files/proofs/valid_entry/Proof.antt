@@ -22,12 +22,12 @@ returns-3 c =
 returns-4 : tie.Need-returns-4
 returns-4 c =
     let b = c .before .before .before in
-    head-empty _ _ (c .before .if4 .taken) ∙ entry-last _ _ (b .before .before .before .before .if1 .left) (b .before .before .if2 .left) (b .if3 .left)
+    head-empty _ (c .before .if4 .taken) ∙ entry-last _ _ (b .before .before .before .before .if1 .left) (b .before .before .if2 .left) (b .if3 .left)
 
 returns-5 : tie.Need-returns-5
 returns-5 c =
     let b = c .before .before .before in
-    head-some _ _ (c .before .if4 .left) ∙ entry-last _ _ (b .before .before .before .before .if1 .left) (b .before .before .if2 .left) (b .if3 .left)
+    head-some _ (c .before .if4 .left) ∙ entry-last _ _ (b .before .before .before .before .if1 .left) (b .before .before .if2 .left) (b .if3 .left)
 
 pub valid-entry-spec : {M : Type 1} → statement M
 valid-entry-spec = tie.close (tie.spec returns returns-2 returns-3 returns-4 returns-5)

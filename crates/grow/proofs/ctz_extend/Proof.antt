@@ -1,7 +1,8 @@
 -- `grow::ctz_extend` meets its contract: the tests decide between the growth and the refusal. Assumes nothing.
 use mathlib.Core.Path.{sym, _∙_}
 use Rattle.grow.proofs.Extends.{grew}
-use Rattle.grow.proofs.Tests.{extending, extend-tested, extend-refused}
+use Rattle.grow.proofs.Tests.{extending}
+use Rattle.grow.proofs.Same.{extend-same, extend-refused}
 use borrow.Author.Needs.{needs}
 use Rattle.grow.proofs.ctz_extend.Statement.{statement}
 use Rattle.grow.proofs.ctz_extend.Tie as tie
@@ -18,7 +19,7 @@ same-length c = search needs
 
 returns : tie.Need-returns
 returns c =
-    rw (extend-tested _ _ _ _ _ _ _ _ _ (sym (c .before .before .before .before .before .valid-extend .ensures) ∙ c .before .before .before .before .if1 .taken)) (c .before .before .extend-scan .ensures)
+    rw (extend-same _ _ _ _ _ _ _ _ _ (sym (c .before .before .before .before .before .valid-extend .ensures) ∙ c .before .before .before .before .if1 .taken)) (c .before .before .extend-scan .ensures)
 
 returns-2 : tie.Need-returns-2
 returns-2 c =

@@ -8,6 +8,7 @@ use Rattle.reading.proofs.Asks.{found-slot, ask-card, ask-missing, ask-
 use borrow.Author.Needs.{needs}
 use Rattle.reading.proofs.ask.Statement.{statement}
 use Rattle.reading.proofs.ask.Tie as tie
+use Rattle.layout.specs.inner.Served.{geometry}
 
 good-card-requires : tie.Need-good-card-requires
 good-card-requires c κs = search needs
@@ -16,7 +17,7 @@ returns : tie.Need-returns
 returns c = ask-card _ _ _ _ _ _ (sym (c .before .good-card .ensures) ∙ not-true _ (c .if1 .taken))
 
 -- past the first test the image is a card
-good : (c : tie.Else1) → let a = c .before .before .args in goodCard (a .g .«block_size») (a .g .«block_count») (a .len) ≡ true
+good : (c : tie.Else1) → let a = c .before .before .args in goodCard (geometry (a .g .«block_size») (a .g .«block_count»)) (a .len) ≡ true
 good c = sym (c .before .good-card .ensures) ∙ not-false _ (c .if1 .left)
 
 find-requires : tie.Need-find-requires

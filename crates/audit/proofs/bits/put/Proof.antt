@@ -6,7 +6,6 @@ use native.Mathlib.Omega.{arith}
 use borrow.Author.Needs.{needs}
 use lib.Dec.{lit<}
 use lib.Pow.{shl-exact}
-use Rattle.audit.specs.Bits.{putBit}
 use Rattle.audit.proofs.bits.put.Statement.{statement}
 use Rattle.audit.proofs.bits.put.Tie as tie
 
@@ -29,7 +28,6 @@ one-shifted : (m : ℕ) → m ≤ 7 → (1 * 2 ^ m) % 256 ≡ 2 ^ m
 one-shifted m h = shl-exact 1 m 8 (lit< tt) (omega arith) ∙ one-mul _
 
 returns : tie.Need-returns
-unfolding putBit
 returns c = simp (one-shifted (c .before .args .k % 8) (omega arith))
 
 pub put-spec : {M : Type 1} → statement M

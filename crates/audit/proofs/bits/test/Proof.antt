@@ -1,7 +1,6 @@
 -- `audit::bits::test` meets its contract: the code reads as the definition. Assumes nothing.
 use mathlib.Core.Path.{refl}
 use borrow.Author.Needs.{needs}
-use Rattle.audit.specs.Bits.{bitOf}
 use Rattle.audit.proofs.bits.test.Statement.{statement}
 use Rattle.audit.proofs.bits.test.Tie as tie
 
@@ -18,7 +17,6 @@ shr-result : tie.Need-shr-result
 shr-result c = search needs
 
 returns : tie.Need-returns
-unfolding bitOf
 returns c = refl
 
 pub test-spec : {M : Type 1} → statement M

@@ -10,6 +10,7 @@ use Rattle.card.proofs.Cards.{card}
 use Rattle.ctz.proofs.Steps.{traverse-refused, traverse-steps}
 use Rattle.ctz.proofs.visit.ctz_traverse.Statement.{statement}
 use Rattle.ctz.proofs.visit.ctz_traverse.Tie as tie
+use Rattle.layout.specs.inner.Served.{geometry}
 
 good-card-requires : tie.Need-good-card-requires
 good-card-requires c κs = search needs
@@ -20,7 +21,7 @@ returns c = traverse-refused _ _ _ _ (sym (c .before .good-card .ensures) ∙ no
 -- past the test the card is good
 good : (c : tie.Else1)
     → let a = c .before .before .before .args in
-    goodCard (a .g .«block_size») (a .g .«block_count») (length (now (a .image))) ≡ true
+    goodCard (geometry (a .g .«block_size») (a .g .«block_count»)) (length (now (a .image))) ≡ true
 good c = sym (c .before .good-card .ensures) ∙ not-false _ (c .if1 .left)
 
 visit-step-requires : tie.Need-visit-step-requires

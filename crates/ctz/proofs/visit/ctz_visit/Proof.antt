@@ -10,6 +10,7 @@ use Rattle.ctz.proofs.Room.{fits-sized}
 use Rattle.ctz.proofs.Steps.{begin-refused, begin-large, begin-empty, begin-at}
 use Rattle.ctz.proofs.visit.ctz_visit.Statement.{statement}
 use Rattle.ctz.proofs.visit.ctz_visit.Tie as tie
+use Rattle.layout.specs.inner.Served.{geometry}
 
 new-requires : tie.Need-new-requires
 new-requires c κs = search needs
@@ -26,7 +27,7 @@ returns c =
     begin-refused _ _ _ _ (refused-fits (g .«block_size») (g .«block_count») (sym (c .before .before .new .ensures) ∙ c .enum-told2 .given .1))
 
 -- past the first test the geometry is one
-fits : (c : tie.After-enum-told) → let g = c .before .before .before .args .g in cardFits (g .«block_size») (g .«block_count») ≡ true
+fits : (c : tie.After-enum-told) → let g = c .before .before .before .args .g in cardFits (geometry (g .«block_size») (g .«block_count»)) ≡ true
 fits c =
     let g = c .before .before .before .args .g in
     made-fits (g .«block_size») (g .«block_count») _ (sym (c .before .before .new .ensures) ∙ c .enum-told .given .1)

@@ -5,16 +5,16 @@ use native.Mathlib.Omega.{arith}
 use borrow.Author.Needs.{needs}
 use lib.ListN.{length}
 use lib.Seq.{slice}
-use Rattle.files.specs.Change.{placeOf}
 use Rattle.files.proofs.Laws.{slots-ok, count-ok}
 use Rattle.files.proofs.Turns.{place-here, place-on, place-end}
 use Rattle.files.proofs.change.place.Statement.{statement}
 use Rattle.files.proofs.change.place.Tie as tie
 use Rattle.layout.specs.Numbers.{filesMax}
+use Rattle.files.specs.inner.Facts.{slotFor}
 
 abbrev Inv-loop : tie.InvT-loop
 Inv-loop number t count i₀ i =
-    (length (t .files) ≡ filesMax) × (i ≤ count) × (count ≤ filesMax) × (placeOf number (slice 0 count (t .files)) ≡ i + placeOf number (slice i count (t .files)))
+    (length (t .files) ≡ filesMax) × (i ≤ count) × (count ≤ filesMax) × (slotFor number (slice 0 count (t .files)) ≡ i + slotFor number (slice i count (t .files)))
 
 abbrev μ-loop : tie.MeasureT-loop
 μ-loop number t count i₀ i = count - i

@@ -44,28 +44,28 @@ returns-2 : tie.Need-returns-2
 returns-2 c =
     let b = c .before .before .before in
     let s = b .before .before .before .before in
-    c .moved .ensures ∙ whence-start _ _ _ _ (s .fits .offset) (s .fits .whence) (c .before .match2 .keys1)
+    c .moved .ensures ∙ whence-start _ _ _ _ _ (s .fits .offset) (s .fits .whence) (c .before .match2 .keys1)
     ∙ sym (seek-at _ _ _ (b .before .before .before .find .ensures) _ _ _ _ (b .before .i .given .1) (c .before .before .if1 .left))
 
 returns-3 : tie.Need-returns-3
 returns-3 c =
     let b = c .before .before .before in
     let s = b .before .before .before .before in
-    c .moved2 .ensures ∙ whence-held _ _ _ _ (s .fits .offset) (s .fits .whence) (c .before .match2 .keys2)
+    c .moved2 .ensures ∙ whence-held _ _ _ _ _ (s .fits .offset) (s .fits .whence) (c .before .match2 .keys2)
     ∙ sym (seek-at _ _ _ (b .before .before .before .find .ensures) _ _ _ _ (b .before .i .given .1) (c .before .before .if1 .left))
 
 returns-4 : tie.Need-returns-4
 returns-4 c =
     let b = c .before .before .before in
     let s = b .before .before .before .before in
-    c .moved3 .ensures ∙ whence-end _ _ _ _ (s .fits .offset) (s .fits .whence) (c .before .match2 .keys3)
+    c .moved3 .ensures ∙ whence-end _ _ _ _ _ (s .fits .offset) (s .fits .whence) (c .before .match2 .keys3)
     ∙ sym (seek-at _ _ _ (b .before .before .before .find .ensures) _ _ _ _ (b .before .i .given .1) (c .before .before .if1 .left))
 
 returns-5 : tie.Need-returns-5
 returns-5 c =
     let b = c .before .before in
     let r = c .match2 .rest in
-    whence-other _ _ _ _ (r .0 .0 .1) (r .0 .1) (r .1)
+    whence-other _ _ _ _ _ (r .0 .0 .1) (r .0 .1) (r .1)
     ∙ sym (seek-at _ _ _ (b .before .before .before .find .ensures) _ _ _ _ (b .before .i .given .1) (c .before .if1 .left))
 
 returns-6 : tie.Need-returns-6

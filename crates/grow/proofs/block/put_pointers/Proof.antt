@@ -4,17 +4,17 @@ use Prim.Native.Nat.{_*_, _-_, _≤_}
 use native.Mathlib.Omega.{arith}
 use borrow.Author.Needs.{needs}
 use lib.ListN.{length}
-use Rattle.device.specs.Bounds.{Blank}
 use Rattle.device.proofs.Blanks.{blank-part}
-use Rattle.grow.specs.Attempt.{putOf}
 use Rattle.grow.proofs.Rooms.{room-of, asked-of, gives}
 use Rattle.grow.proofs.Pointers.{put-start, words-blank, put-done, put-damaged, put-spoiled, put-turn}
 use Rattle.grow.proofs.block.put_pointers.Statement.{statement}
 use Rattle.grow.proofs.block.put_pointers.Tie as tie
+use Rattle.device.specs.inner.Bounds.{Blank}
+use Rattle.grow.specs.inner.Attempt.{putPointers}
 
 abbrev Inv-loop : tie.InvT-loop
 Inv-loop image₀ health b n k count head cur₀ x₀ image cur x = (x ≤ count) × (length image ≡ length image₀)
-    × (putOf health b n k (4 * count) count 0 head image₀ ≡ putOf health b n k (4 * count) (count - x) x cur image)
+    × (putPointers health b n k (4 * count) count 0 head image₀ ≡ putPointers health b n k (4 * count) (count - x) x cur image)
     × Blank b k (4 * x) (4 * (count - x)) image
 
 abbrev μ-loop : tie.MeasureT-loop

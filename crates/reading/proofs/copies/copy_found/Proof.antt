@@ -7,14 +7,17 @@ use Prim.Native.Nat.{_+_, _-_}
 use Rattle.ctz.specs.Lookup.{walkTo}
 use Rattle.ctz.specs.declared.Found.the-variants.{At}
 use Rattle.plain.specs.Reading.{gather}
-use Rattle.reading.specs.Bounds.{Parted}
-use Rattle.reading.specs.Calls.{clean}
+use Rattle.reading.specs.inner.Bounds.{Parted}
 use Rattle.reading.proofs.Gathers.{offset-below, never-refused, Step, step, clean-turn, copy-keeps, copy-first, copy-only, all-damaged}
 use Rattle.reading.proofs.Inner.{run-copied, run-damaged}
 use native.Mathlib.Omega.{arith}
 use borrow.Author.Needs.{needs}
 use Rattle.reading.proofs.copies.copy_found.Statement.{statement}
 use Rattle.reading.proofs.copies.copy_found.Tie as tie
+use Rattle.card.specs.inner.Cards.{cardWith}
+use Rattle.layout.specs.inner.Served.{blockList}
+use Rattle.plain.specs.inner.Forms.{range}
+use Rattle.reading.specs.inner.Runs.{clean}
 
 find-in-requires : tie.Need-find-in-requires
 find-in-requires c κs = search needs
@@ -26,7 +29,7 @@ enum-known-found c = search needs
 there : (c : tie.After-known-told)
     → let a = c .before .before .before .before .before .before .args in
     let f = c .before .found .given .0 in
-    walkTo (now (a .image)) (a .b) (a .n) (a .head) (a .size) (a .pos) ≡ At (f .0) (f .1 .0) (f .1 .1 .0)
+    walkTo (cardWith (a .b) (a .n) (now (a .image))) (blockList (a .head) (a .size)) (a .pos) ≡ At (f .0) (f .1 .0) (f .1 .1 .0)
 there c = sym (c .before .before .before .find-in .ensures) ∙ c .before .found .given .1
 
 turn : (c : tie.After-least)
@@ -41,8 +44,8 @@ turn c =
 same : (c : tie.After-least)
     → let a = c .before .before .before .before .before .before .before .args in
     let m = c .least .result in
-    clean (gather (a .count) (now (a .image)) (a .b) (a .n) (a .head) (a .size) (a .pos) (a .count))
-    ≡ clean (gather (a .count - m) (now (a .image)) (a .b) (a .n) (a .head) (a .size) (a .pos + m) (a .count - m))
+    clean (gather (a .count) (cardWith (a .b) (a .n) (now (a .image))) (blockList (a .head) (a .size)) (range (a .pos) (a .count)))
+    ≡ clean (gather (a .count - m) (cardWith (a .b) (a .n) (now (a .image))) (blockList (a .head) (a .size)) (range (a .pos + m) (a .count - m)))
 same c =
     let s = c .before .before .before .before .before .before .before in
     clean-turn (now (s .args .image)) (s .args .head) (s .pre .run) (s .pre .some) (c .least .result) (there (c .before)) (c .least .ensures)

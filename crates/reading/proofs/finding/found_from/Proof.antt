@@ -6,14 +6,14 @@ use native.Mathlib.Omega.{arith}
 use borrow.Author.Needs.{needs}
 use borrow.Author.Tests.{not-true, not-false}
 use lib.ListN.{length}
-use Rattle.card.specs.Blocks.{pointer}
 use Rattle.reading.proofs.Runs.{Passed, passed-none, passed-more, passed-all, run-missed}
 use Rattle.reading.proofs.finding.found_from.Statement.{statement}
 use Rattle.reading.proofs.finding.found_from.Tie as tie
+use Rattle.card.specs.Card.{pointer}
 
 abbrev Inv-loop : tie.InvT-loop
 Inv-loop b n image head top first last blocks₀ i₀ blocks i =
-    (first ≤ i) × (length blocks ≡ 1024) × Passed (pointer image b) n head top first i
+    (first ≤ i) × (length blocks ≡ 1024) × Passed (pointer b image) n head top first i
 
 abbrev μ-loop : tie.MeasureT-loop
 μ-loop b n image head top first last blocks₀ i₀ blocks i = suc last - i

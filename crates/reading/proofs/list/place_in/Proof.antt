@@ -8,6 +8,8 @@ use Rattle.ctz.specs.declared.Found.the-variants.{At}
 use Rattle.reading.proofs.Inner.{place-past, place-found, place-part, Lies, lies}
 use Rattle.reading.proofs.list.place_in.Statement.{statement}
 use Rattle.reading.proofs.list.place_in.Tie as tie
+use Rattle.card.specs.inner.Cards.{cardWith}
+use Rattle.layout.specs.inner.Served.{blockList}
 
 returns : tie.Need-returns
 returns c = place-past _ _ _ _ _ _ (c .if1 .taken)
@@ -22,7 +24,7 @@ enum-known-found c = search needs
 there : (c : tie.After-known-told)
     → let a = c .before .before .before .before .before .before .args in
     let f = c .before .found .given .0 in
-    walkTo (now (a .image)) (a .b) (a .n) (a .head) (a .size) (a .pos) ≡ At (f .0) (f .1 .0) (f .1 .1 .0)
+    walkTo (cardWith (a .b) (a .n) (now (a .image))) (blockList (a .head) (a .size)) (a .pos) ≡ At (f .0) (f .1 .0) (f .1 .1 .0)
 there c = sym (c .before .before .before .find-in .ensures) ∙ c .before .found .given .1
 
 inside : (c : tie.After-known-told)

@@ -1,7 +1,7 @@
 -- `lists::visit` meets its contract, case by case. Assumes nothing.
 use mathlib.Core.Path.{_∙_, ap, sym}
 use borrow.Author.Needs.{needs}
-use Rattle.replay.specs.Lists.{begunTold}
+use Rattle.replay.specs.Lists.{begunEqual}
 use Rattle.replay.proofs.Listed.{visit-begins, visit-is, visited-is}
 use Rattle.replay.proofs.lists.visit.Statement.{statement}
 use Rattle.replay.proofs.lists.visit.Tie as tie
@@ -47,7 +47,7 @@ returns c =
     let d = c .before .before .before .before in
     visit-is _ _ _ _ _ _ _ (d .before .before .before .place .ensures) (d .before .word .ensures) (d .word2 .ensures)
     (visit-begins _ _ _ _ _ _ (d .before .before .geometry .ensures) (c .before .before .before .ctz-visit .ensures))
-    (c .told .ensures ∙ ap (begunTold _ _ _ _) (sym (c .before .enum-told .given .1)))
+    (c .told .ensures ∙ ap (begunEqual _ _ _ _) (sym (c .before .enum-told .given .1)))
 
 returns-2 : tie.Need-returns-2
 returns-2 c =
@@ -55,7 +55,7 @@ returns-2 c =
     let e = d .before .before .before .before in
     visit-is _ _ _ _ _ _ _ (e .before .place .ensures) (d .before .before .before .word .ensures)
     (d .before .before .word2 .ensures) (visit-begins _ _ _ _ _ _ (e .geometry .ensures) (d .before .ctz-visit .ensures))
-    (visited-is _ _ _ _ _ _ (c .before .place2 .ensures) (c .visited .ensures) ∙ ap (begunTold _ _ _ _)
+    (visited-is _ _ _ _ _ _ (c .before .place2 .ensures) (c .visited .ensures) ∙ ap (begunEqual _ _ _ _)
     (sym (c .before .before .before .begun .given .1)))
 
 returns-3 : tie.Need-returns-3
@@ -63,7 +63,7 @@ returns-3 c =
     let d = c .before .before .before .before in
     visit-is _ _ _ _ _ _ _ (d .before .before .before .place .ensures) (d .before .word .ensures) (d .word2 .ensures)
     (visit-begins _ _ _ _ _ _ (d .before .before .geometry .ensures) (c .before .before .before .ctz-visit .ensures))
-    (c .told2 .ensures ∙ ap (begunTold _ _ _ _) (sym (c .before .enum-told2 .given .1)))
+    (c .told2 .ensures ∙ ap (begunEqual _ _ _ _) (sym (c .before .enum-told2 .given .1)))
 
 pub visit-spec : {M : Type 1} → statement M
 visit-spec =

@@ -1,7 +1,6 @@
--- `seeks::seek` meets its contract, case by case. Assumes nothing.
-use mathlib.Core.Path.{_∙_, ap, sym}
+-- `seeks::seek` meets its contract: the words that were read, and the answer told. Assumes nothing.
 use borrow.Author.Needs.{needs}
-use Rattle.replay.specs.Files.{soughtTold}
+use Rattle.records.proofs.Bare.{bare-is}
 use Rattle.replay.proofs.Sought.{seek-is}
 use Rattle.replay.proofs.seeks.seek.Statement.{statement}
 use Rattle.replay.proofs.seeks.seek.Tie as tie
@@ -30,50 +29,25 @@ signed-requires-2 c κs = search needs
 seek-requires : tie.Need-seek-requires
 seek-requires c κs = search needs
 
-enum-known-sought : tie.Need-enum-known-sought
-enum-known-sought c = search needs
+sought-told-requires : tie.Need-sought-told-requires
+sought-told-requires c κs = search needs
+
+bare-requires : tie.Need-bare-requires
+bare-requires c κs = search needs
 
 told-requires : tie.Need-told-requires
 told-requires c κs = search needs
-
-enum-told : tie.Need-enum-told
-enum-told c = search needs
-
-told-requires-2 : tie.Need-told-requires-2
-told-requires-2 c κs = search needs
-
-enum-told-2 : tie.Need-enum-told-2
-enum-told-2 c = search needs
-
-told-requires-3 : tie.Need-told-requires-3
-told-requires-3 c κs = search needs
 
 returns : tie.Need-returns
 returns c =
     let d = c .before .before .before .before in
     let e = d .before .before .before .before in
-    seek-is _ _ _ _ _ _ _ _ _ _ _ (e .before .before .before .word .ensures) (e .before .word2 .ensures) (e .word3 .ensures)
-    (d .before .before .word4 .ensures) (d .before .before .before .signed .ok) (d .before .before .before .signed .ensures)
-    (d .before .signed2 .ok) (d .before .signed2 .ensures) (e .before .before .one-file .ensures) (d .seek .ensures)
-    (c .told .ensures ∙ ap (soughtTold _ _) (sym (c .before .before .sought .given .1)))
-
-returns-2 : tie.Need-returns-2
-returns-2 c =
-    let d = c .before .before .before .before in
-    let e = d .before .before .before .before in
-    seek-is _ _ _ _ _ _ _ _ _ _ _ (e .before .before .word .ensures) (e .word2 .ensures)
-    (d .before .before .before .word3 .ensures) (d .before .word4 .ensures) (d .before .before .signed .ok)
-    (d .before .before .signed .ensures) (d .signed2 .ok) (d .signed2 .ensures) (e .before .one-file .ensures)
-    (c .before .before .before .seek .ensures) (c .told2 .ensures ∙ ap (soughtTold _ _) (sym (c .before .enum-told .given .1)))
-
-returns-3 : tie.Need-returns-3
-returns-3 c =
-    let d = c .before .before .before .before in
-    let e = d .before .before .before .before in
-    seek-is _ _ _ _ _ _ _ _ _ _ _ (e .before .before .word .ensures) (e .word2 .ensures)
-    (d .before .before .before .word3 .ensures) (d .before .word4 .ensures) (d .before .before .signed .ok)
-    (d .before .before .signed .ensures) (d .signed2 .ok) (d .signed2 .ensures) (e .before .one-file .ensures)
-    (c .before .before .before .seek .ensures) (c .told3 .ensures ∙ ap (soughtTold _ _) (sym (c .before .enum-told2 .given .1)))
+    seek-is _ _ _ _ _ _ _ _ _ _ _ _ _ (e .before .before .before .word .ensures) (e .before .word2 .ensures)
+    (e .word3 .ensures) (d .before .before .word4 .ensures) (d .before .before .before .signed .ok)
+    (d .before .before .before .signed .ensures) (d .before .signed2 .ok) (d .before .signed2 .ensures)
+    (e .before .before .one-file .ensures) (d .seek .ensures) (c .before .before .before .sought-told .ensures)
+    (bare-is (c .before .before .before .sought-told .result .code) _ (c .before .before .struct-told .given .0 .1) (c .before .bare .ensures))
+    (c .told .ensures)
 
 pub seek-spec : {M : Type 1} → statement M
 seek-spec =
@@ -87,12 +61,7 @@ seek-spec =
     word-requires-4
     signed-requires-2
     seek-requires
-    enum-known-sought
+    sought-told-requires
+    bare-requires
     told-requires
-    enum-told
-    told-requires-2
-    enum-told-2
-    told-requires-3
-    returns
-    returns-2
-    returns-3)
+    returns)

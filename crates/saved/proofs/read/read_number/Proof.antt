@@ -4,8 +4,8 @@ use Prim.Native.Nat.{zero, _-_, _<_, _^_}
 use native.Mathlib.Omega.{arith}
 use borrow.Author.Needs.{needs}
 use lib.ListN.{length, drop}
-use Rattle.saved.specs.Groups.{readNumber, upTo, readUpTo}
-use Rattle.saved.specs.Inner.{Scaled}
+use Rattle.saved.specs.Load.{readNumber, upTo, readUpTo}
+use Rattle.saved.specs.inner.Steps.{Scaled}
 use Rattle.saved.proofs.Scaling.{join, start-is, group-fits, group-below, number-turn, number-last, number-over, number-end}
 use Rattle.saved.proofs.read.read_number.Statement.{statement}
 use Rattle.saved.proofs.read.read_number.Tie as tie

@@ -2,13 +2,13 @@
 use mathlib.Core.Path.{sym, _∙_}
 use mathlib.Core.Logic.{⊎-elim}
 use Rattle.layout.proofs.Served.{served}
-use Rattle.store.specs.Store.{lookIn}
 use Rattle.store.proofs.Looks.{look-same, told-block, told-lost}
 use Rattle.store.proofs.Heads.{head-none, head-lost, head-inside, head-border, head-first}
 use borrow.Author.Needs.{needs}
 use native.Mathlib.Omega.{arith}
 use Rattle.store.proofs.old.first_head.Statement.{statement}
 use Rattle.store.proofs.old.first_head.Tie as tie
+use Rattle.store.specs.inner.Store.{lookIn}
 
 returns : tie.Need-returns
 returns c =

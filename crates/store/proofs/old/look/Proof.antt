@@ -3,7 +3,7 @@ use mathlib.Core.Path.{sym, ap, _∙_}
 use Rattle.ctz.specs.declared.Found.{Found}
 use Rattle.store.specs.Store.{lookOf}
 use Rattle.store.specs.Write.{Look}
-use Rattle.store.specs.Lookups.{lookedOf}
+use Rattle.store.specs.inner.Lookups.{lookedOf}
 use Rattle.store.proofs.Looks.{look-head, look-headless}
 use borrow.Author.Needs.{needs}
 use Rattle.store.proofs.old.look.Statement.{statement}

@@ -4,7 +4,7 @@ use Prim.Native.Nat.{_-_}
 use Rattle.layout.proofs.Served.{served}
 use Rattle.ctz.proofs.Room.{first-asked}
 use Rattle.store.specs.declared.old.Looked.the-variants as looked-as
-use Rattle.store.specs.Lookups.{lookedOf}
+use Rattle.store.specs.inner.Lookups.{lookedOf}
 use Rattle.store.proofs.Looks.{look-headless, look-next, look-next-lost}
 use borrow.Author.Needs.{needs}
 use native.Mathlib.Omega.{arith}

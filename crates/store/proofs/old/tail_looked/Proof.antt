@@ -4,18 +4,18 @@ use Prim.Native.Nat.{ℕ, _+_, _-_}
 use Rattle.layout.proofs.Places.{offset-inside}
 use Rattle.layout.proofs.Served.{served, index-in}
 use Rattle.store.specs.Write.{looked}
-use Rattle.store.specs.Store.{lookIn}
-use Rattle.store.specs.Lookups.{tailWanted}
+use Rattle.store.specs.inner.Lookups.{tailWanted}
 use Rattle.store.proofs.Looks.{look-same, told-block, told-lost}
 use Rattle.store.proofs.Heads.{tail-lost, tail-turn, tail-end}
 use borrow.Author.Needs.{needs}
 use native.Mathlib.Omega.{arith}
 use Rattle.store.proofs.old.tail_looked.Statement.{statement}
 use Rattle.store.proofs.old.tail_looked.Tie as tie
+use Rattle.store.specs.inner.Store.{lookIn}
 
 abbrev Inv-loop : tie.InvT-loop
 Inv-loop b n image e from size p₀ p =
-    looked (lookIn b n e) image (tailWanted b p₀ size) ≡ looked (lookIn b n e) image (tailWanted b p size)
+    looked ((lookIn b n e) image) (tailWanted b p₀ size) ≡ looked ((lookIn b n e) image) (tailWanted b p size)
 
 abbrev μ-loop : tie.MeasureT-loop
 μ-loop b n image e from size p₀ p = size - p

@@ -1,6 +1,6 @@
 -- `tidmaruls::allocator::tid_alloc` meets its contract: what the inner call ensures, told. Assumes nothing.
 use mathlib.Core.Path.{ap, _∙_}
-use Rattle.tidmaruls.specs.Allocator.{allocatedTold}
+use Rattle.told_windows.specs.Windows.{allocatedTold}
 use borrow.Author.Needs.{needs}
 use Rattle.tidmaruls.proofs.allocator.tid_alloc.Statement.{statement}
 use Rattle.tidmaruls.proofs.allocator.tid_alloc.Tie as tie

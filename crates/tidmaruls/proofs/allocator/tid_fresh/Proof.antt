@@ -1,6 +1,6 @@
 -- `tidmaruls::allocator::tid_fresh` meets its contract: what the inner call ensures, told. Assumes nothing.
 use mathlib.Core.Path.{ap, _∙_}
-use Rattle.tidmaruls.specs.Allocator.{repliedTold}
+use Rattle.told_windows.specs.Windows.{repliedTold}
 use borrow.Author.Needs.{needs}
 use Rattle.tidmaruls.proofs.allocator.tid_fresh.Statement.{statement}
 use Rattle.tidmaruls.proofs.allocator.tid_fresh.Tie as tie

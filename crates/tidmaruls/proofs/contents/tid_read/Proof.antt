@@ -1,7 +1,7 @@
 -- `tidmaruls::contents::tid_read` meets its contract: what the inner call ensures, told, and the buffer as that call left it. Assumes nothing.
 use mathlib.Core.Path.{ap, _∙_}
 use Rattle.reading.specs.Calls.{Outcome}
-use Rattle.tidmaruls.specs.Contents.{readTold}
+use Rattle.told_files.specs.Contents.{readTold}
 use borrow.Author.Needs.{needs}
 use Rattle.tidmaruls.proofs.contents.tid_read.Statement.{statement}
 use Rattle.tidmaruls.proofs.contents.tid_read.Tie as tie

@@ -1,6 +1,6 @@
 -- `tidmaruls::lookups::tid_index` meets its contract: what the inner call ensures, told. Assumes nothing.
 use mathlib.Core.Path.{ap, _∙_}
-use Rattle.tidmaruls.specs.Lists.{placeTold}
+use Rattle.told_lists.specs.Lists.{placeTold}
 use borrow.Author.Needs.{needs}
 use Rattle.tidmaruls.proofs.lookups.tid_index.Statement.{statement}
 use Rattle.tidmaruls.proofs.lookups.tid_index.Tie as tie

@@ -1,6 +1,6 @@
 -- `tidmaruls::tables::tid_save` meets its contract: what the inner call ensures, told, and the buffer as that call left it. Assumes nothing.
 use mathlib.Core.Path.{ap, _∙_}
-use Rattle.tidmaruls.specs.Tables.{savedTold}
+use Rattle.told_tables.specs.Tables.{savedTold}
 use borrow.Author.Needs.{needs}
 use Rattle.tidmaruls.proofs.tables.tid_save.Statement.{statement}
 use Rattle.tidmaruls.proofs.tables.tid_save.Tie as tie

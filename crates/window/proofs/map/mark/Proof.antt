@@ -1,6 +1,6 @@
 -- `window::map::mark` meets its contract: one byte changes where the offset is below the size. Assumes nothing.
 use borrow.Author.Tests.{lt-ltb, le-ltb}
-use Rattle.window.specs.Marks.{markMap}
+use Rattle.window.specs.Scan.{markMap}
 use borrow.Author.Needs.{needs}
 use Rattle.window.proofs.map.mark.Statement.{statement}
 use Rattle.window.proofs.map.mark.Tie as tie
@@ -31,11 +31,11 @@ element-write-map c = search needs
 
 returns : tie.Need-returns
 unfolding markMap
-returns c = simp (lt-ltb _ _ (c .before .before .if1 .taken), c .with-bit .ensures)
+returns c = rw (markMap, lt-ltb _ _ (c .before .before .if1 .taken), c .with-bit .ensures)
 
 returns-2 : tie.Need-returns-2
 unfolding markMap
-returns-2 c = simp (le-ltb _ _ (c .if1 .left))
+returns-2 c = rw (markMap, le-ltb _ _ (c .if1 .left))
 
 pub mark-spec : {M : Type 1} → statement M
 mark-spec =

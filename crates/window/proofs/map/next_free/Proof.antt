@@ -1,14 +1,14 @@
 -- `window::map::next_free` meets its contract: what is left of the search answers the whole search. Assumes nothing.
 use mathlib.Core.Path.{_≡_, _∙_, sym}
 use Prim.Native.Nat.{_-_}
-use Rattle.window.specs.Search.{freeFrom}
-use Rattle.window.proofs.Search.{free-step, free-end}
+use Rattle.window.specs.Allocate.{skip}
+use Rattle.window.proofs.Search.{free-marked, free-clear, free-end}
 use borrow.Author.Needs.{needs}
 use Rattle.window.proofs.map.next_free.Statement.{statement}
 use Rattle.window.proofs.map.next_free.Tie as tie
 
 abbrev Inv-loop : tie.InvT-loop
-Inv-loop map from size o₀ o = freeFrom map from size ≡ freeFrom map o size
+Inv-loop map from size o₀ o = skip (size - from) map from ≡ skip (size - o) map o
 
 abbrev μ-loop : tie.MeasureT-loop
 μ-loop map from size o₀ o = size - o
@@ -37,12 +37,12 @@ loop-less c = search needs
 loop-again : tie.Need-loop-again Inv-loop μ-loop
 loop-again c =
     let inv = c .before .before .before .before .loop .inv in
-    inv ∙ free-step _ _ _ (c .before .before .before .loop-test .taken) ∙ simp (sym (c .before .bit .ensures) ∙ c .if1 .taken)
+    inv ∙ free-marked _ _ _ (c .before .before .before .loop-test .taken) (sym (c .before .bit .ensures) ∙ c .if1 .taken)
 
 returns : tie.Need-returns Inv-loop μ-loop
 returns c =
     let inv = c .before .before .before .before .loop .inv in
-    sym (inv ∙ free-step _ _ _ (c .before .before .before .loop-test .taken) ∙ simp (sym (c .before .bit .ensures) ∙ c .if1 .left))
+    sym (inv ∙ free-clear _ _ _ (c .before .before .before .loop-test .taken) (sym (c .before .bit .ensures) ∙ c .if1 .left))
 
 returns-2 : tie.Need-returns-2 Inv-loop μ-loop
 returns-2 c = sym (c .before .loop .inv ∙ free-end _ _ _ (c .loop-test .left))

@@ -1,6 +1,6 @@
 -- `window::setup::dropped` meets its contract: each test that led to a return settles the reply. Assumes nothing.
 use mathlib.Core.Path.{sym, _∙_}
-use Rattle.window.specs.Replies.{droppedReply}
+use Rattle.window.specs.Value.{droppedReply}
 use Rattle.window.proofs.Valid.{sizes}
 use borrow.Author.Needs.{needs}
 use Rattle.window.proofs.setup.dropped.Statement.{statement}
@@ -12,7 +12,7 @@ valid-sizes-requires c κs = search needs
 valid-window-requires : tie.Need-valid-window-requires
 valid-window-requires c κs =
     let g = c .before .before .args .g in
-    sizes (g .«block_size») (g .«block_count») _ (sym (c .before .valid-sizes .ensures) ∙ c .if1 .taken) .l-le
+    sizes g _ (sym (c .before .valid-sizes .ensures) ∙ c .if1 .taken) .l-le
 
 alloc-drop-requires : tie.Need-alloc-drop-requires
 alloc-drop-requires c κs = search needs

@@ -20,10 +20,10 @@ enum-told-2 c = search needs
 returns : tie.Need-returns
 returns c =
     let t = c .before in
-    c .valid-lookahead .ensures ∙ sizes-made _ _ _ _ (sym (t .before .before .new .ensures) ∙ t .enum-told .given .1)
+    c .valid-lookahead .ensures ∙ sizes-made _ _ _ (sym (t .before .before .new .ensures) ∙ t .enum-told .given .1)
 
 returns-2 : tie.Need-returns-2
-returns-2 c = sizes-refused _ _ _ (sym (c .before .before .new .ensures) ∙ c .enum-told2 .given .1)
+returns-2 c = sizes-refused _ _ (sym (c .before .before .new .ensures) ∙ c .enum-told2 .given .1)
 
 pub valid-sizes-spec : {M : Type 1} → statement M
 valid-sizes-spec =

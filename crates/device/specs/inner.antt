@@ -1,0 +1,3 @@
+-- What only the contracts of inner functions and the laws cite.
+pub mod Steps
+pub mod Bounds

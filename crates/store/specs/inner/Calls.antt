@@ -1,0 +1,32 @@
+-- What the parts of the entry points ask.
+use mathlib.Core.List.{List}
+use Prim.Native.Nat.{ℕ, _≤_, _<_}
+use lib.ListN.{length}
+use Rattle.files.specs.declared.Table.{Table}
+use Rattle.files.specs.Table.{file}
+use Rattle.window.specs.declared.Lookahead.{Lookahead}
+use Rattle.store.specs.Asked.{WriteAsked, TruncateAsked}
+use Rattle.layout.specs.Numbers.{filesMax, sizeMax}
+use Rattle.card.specs.inner.Cards.{CardFacts}
+use Rattle.alloc.specs.inner.Facts.{Ready}
+
+-- what a call is asked, by its parts
+abbrev pub askWrite : ℕ → ℕ → List ℕ → WriteAsked
+askWrite number p src = record { number = number; position = p; bytes = src }
+
+abbrev pub askTruncate : ℕ → ℕ → TruncateAsked
+askTruncate number size = record { number = number; size = size }
+
+-- what a shrinking asks: a card, a file at that place, a size below its own
+pub record Shrinking (B N len : ℕ) (t : Table) (i size : ℕ) : Type 0 where
+  pub card : CardFacts B N len
+  pub slot : i < filesMax
+  pub most : file t i .size ≤ sizeMax
+  pub below : size < file t i .size
+
+-- what a call asks of the file at place i: what the tests before it tell
+pub record Asked (B N l : ℕ) (image health : List ℕ) (w : Lookahead) (t : Table) (i : ℕ) : Type 0 where
+  pub ready : Ready B N l (length image) t w
+  pub known : N ≤ length health
+  pub slot : i < filesMax
+  pub most : file t i .size ≤ sizeMax

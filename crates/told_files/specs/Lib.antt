@@ -1,0 +1,2 @@
+-- The definitions that the contracts of `told_files` cite.
+pub mod Contents

@@ -1,0 +1,2 @@
+-- The definitions that the contracts of `told_windows` cite.
+pub mod Windows

@@ -1,0 +1,5 @@
+-- The laws of a write as one loop.
+pub mod Series
+pub mod Laws
+pub mod Falls
+mod Examples
