@@ -26,7 +26,7 @@ use Rattle.windows.proofs.Listed.{lists-tells}
 use Rattle.alloc.specs.Visits.{seenIn}
 use Rattle.demands.specs.Space.{goodBlock}
 use Rattle.span.specs.Members.{has}
-use Rattle.writes.proofs.Allocators.{In, Standing, Stays, Allotted, Allocator, Drawn, Counter}
+use Rattle.writes.proofs.Allocators.{In, Stays, Allotted, Allocator, Drawn, Counter, MustStand}
 use Rattle.trials.specs.Loop.{Took, Block, None, Bad}
 use Rattle.grow.specs.inner.Extend.{windowAlloc}
 use Rattle.card.specs.inner.Cards.{CardFacts, cardWith}
@@ -138,7 +138,7 @@ module _ (B n l : ℕ) (listed : List ℕ) (t : Table) (z : GoodScope n l) (img�
             fewer = omega (arith, v .0 .from, v .0 .below);
           })
         where
-          other : New n listed out k → (k′ : ℕ) → Standing (Listed listed) out k′ → k ≡ k′ → ⊥
+          other : New n listed out k → (k′ : ℕ) → MustStand (Listed listed) out k′ → k ≡ k′ → ⊥
           other nw k′ (inl u) q = no-both (has listed k′) u (subst (λ (x : ℕ). has listed x ≡ false) q (nw .unlisted))
           other nw k′ (inr u) q = no-both (has out k′) (in-has k′ out u) (subst (λ (x : ℕ). has out x ≡ false) q (nw .other))
 

@@ -45,7 +45,7 @@ pub data Search (R : Claim) (base n : ℕ) (w : Lookahead) : Got → Lookahead �
   found : {b : ℕ} {v : Lookahead} → Handed R base n (w .ckpoint) b (v .ckpoint) → Search R base n w (Block b) v
   used : {v : Lookahead} → v .ckpoint ≡ w .ckpoint - (w .size - w .next) → PassedMarked R base n (n - w .ckpoint) (n - v .ckpoint) → Search R base n w Empty v
 
-pub record Sought (R : Claim) (base n l : ℕ) (w : Lookahead) (g : Got) (v : Lookahead) : Type 0 where
+pub record SoughtBlock (R : Claim) (base n l : ℕ) (w : Lookahead) (g : Got) (v : Lookahead) : Type 0 where
   pub valid : ValidWindow v n l
   pub says : Says R n v
   pub on : On base n v
@@ -70,13 +70,13 @@ module _ (R : Claim) (base n l : ℕ) (w : Lookahead) (g : ValidWindow w n l) (s
   says-moved : (to : ℕ) → w .next ≤ to → Says R n (moved w to)
   says-moved to a o b c = s o (omega arith) c
 
-  pub sought : Sought R base n l w (takeOf n w .answer) (takeOf n w .window)
+  pub sought : SoughtBlock R base n l w (takeOf n w .answer) (takeOf n w .window)
   unfolding takeOf
   sought =
       let m = w .map in
       let at = freeFrom w (w .next) in
       let p = free-stops m (w .next) (w .size) (g .next-le) in
-      ltb-cases at (w .size) (λ t. Sought R base n l w (takeCase t n w at .answer) (takeCase t n w at .window))
+      ltb-cases at (w .size) (λ t. SoughtBlock R base n l w (takeCase t n w at .answer) (takeCase t n w at .window))
       (λ lt.
       let to = freeFrom w (at + 1) in
       let q = free-stops m (at + 1) (w .size) (omega arith) in
@@ -163,7 +163,7 @@ module _ (R : Claim) (base n l : ℕ) (seen : Seen) (z : GoodScope n l) (low : B
           on refl refl
       go false ok = (record { valid = dropped-valid (map-valid c _); says = λ o a b. absurd (omega arith); view = bad ok refl refl }, λ e. absurd (no-both false e refl))
 
-  on-got : (w : Lookahead) (q : Got) (v : Lookahead) (F : Lookahead → Allocated) → ValidWindow w n l → first ≤ n - w .ckpoint + (w .size - w .next) → Sought R base n l w q v
+  on-got : (w : Lookahead) (q : Got) (v : Lookahead) (F : Lookahead → Allocated) → ValidWindow w n l → first ≤ n - w .ckpoint + (w .size - w .next) → SoughtBlock R base n l w q v
       → ((v .ckpoint ≡ 0 → ⊥) → v .ckpoint ≡ w .ckpoint - (w .size - w .next) → Reached (v .ckpoint) (F v))
       → Reached (w .ckpoint) (onGot q v F)
   on-got w q v F g m r k = go (r .how) k

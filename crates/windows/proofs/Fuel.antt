@@ -12,7 +12,7 @@ use Rattle.window.proofs.Cases.{eqb-cases}
 use Rattle.window.proofs.Kept.{cleared-valid, map-valid}
 use Rattle.window.proofs.Turns.{left, less}
 use Rattle.windows.proofs.Views.{Claim}
-use Rattle.windows.proofs.Alloc.{Search, found, used, Sought, sought, some-on}
+use Rattle.windows.proofs.Alloc.{Search, found, used, sought, some-on, SoughtBlock}
 use Rattle.window.specs.inner.Facts.{ValidWindow, GoodScope, scope}
 
 over : (c s : ℕ) → c + (1 - s) ≤ c + 2
@@ -25,7 +25,7 @@ nothing : Claim
 nothing b t = _≡_ {A = ℕ} 0 0
 
 module _ (n l : ℕ) (seen : Seen) (z : GoodScope n l) where
-  search : (w : Lookahead) → ValidWindow w n l → Sought nothing ((w .start + w .next + w .ckpoint) % n) n l w (takeOf n w .answer) (takeOf n w .window)
+  search : (w : Lookahead) → ValidWindow w n l → SoughtBlock nothing ((w .start + w .next + w .ckpoint) % n) n l w (takeOf n w .answer) (takeOf n w .window)
   unfolding nothing
   search w g = sought nothing ((w .start + w .next + w .ckpoint) % n) n l w g (λ o a b. refl) (some-on n l w g)
 

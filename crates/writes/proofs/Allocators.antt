@@ -16,8 +16,8 @@ In k [] = ⊥
 In k (x ∷ xs) = (x ≡ k) ⊎ In k xs
 
 -- the blocks that must stand: the listed ones, L, and those handed out in this call
-abbrev pub Standing : (ℕ → Type 0) → List ℕ → ℕ → Type 0
-Standing L out k = L k ⊎ In k out
+abbrev pub MustStand : (ℕ → Type 0) → List ℕ → ℕ → Type 0
+MustStand L out k = L k ⊎ In k out
 
 -- the frame: every byte of every block with P is as before
 abbrev pub Stays : ℕ → (ℕ → Type 0) → List ℕ → List ℕ → Type 0
@@ -27,7 +27,7 @@ Stays B P img img′ = (k o : ℕ) → P k → o < B → cell B img′ k o ≡ c
 pub record Allotted {W : Type 0} (N : ℕ) (tries : W → ℕ) (L : ℕ → Type 0) (Ok : W → List ℕ → List ℕ → Type 0)
     (w w′ : W) (out img : List ℕ) (k : ℕ) : Type 0 where
   pub low : k < N
-  pub new : (k′ : ℕ) → Standing L out k′ → k ≢ k′
+  pub new : (k′ : ℕ) → MustStand L out k′ → k ≢ k′
   pub ok : Ok w′ (k ∷ out) img
   pub fewer : tries w′ < tries w
 

@@ -13,7 +13,7 @@ use Rattle.writes.proofs.Cells.{stored-card, stored-other, cell}
 use Rattle.writes.proofs.Holds.{moves, Holds}
 use Rattle.writes.proofs.Grown.{Made}
 use Rattle.writes.proofs.Links.{Linked, linked}
-use Rattle.writes.proofs.Allocators.{In, Standing, Stays, Allotted, Allocator}
+use Rattle.writes.proofs.Allocators.{In, Stays, Allotted, Allocator, MustStand}
 use Rattle.trials.specs.Loop.{Took, Block, None, Bad}
 use Rattle.grow.specs.Extend.{GrowOut}
 use Rattle.grow.specs.inner.Grow.{spoils, growOf}
@@ -38,16 +38,16 @@ module _ {W : Type 0} (B N : ℕ) (health : List ℕ) (tries : W → ℕ) (alloc
     pub answer : o .answer ≡ Grown k (offsetAt B s)
     pub low : k < N
     pub fresh : In k out′
-    pub mine : (k′ : ℕ) → Standing L out k′ → k ≢ k′
+    pub mine : (k′ : ℕ) → MustStand L out k′ → k ≢ k′
     pub mid : List ℕ
-    pub before : Stays B (Standing L out) img mid
+    pub before : Stays B (MustStand L out) img mid
     pub made : Made B mid (o .image) f k (indexAt B s) s
 
   -- what a growth leaves, made or not; on a sound list it is never damaged
   pub record Growing (out img : List ℕ) (f : ℕ → ℕ) (s : ℕ) (o : GrowOut W) : Type 0 where
     pub out′ : List ℕ
     pub card : CardFacts B N (length (o .image))
-    pub stays : Stays B (Standing L out) img (o .image)
+    pub stays : Stays B (MustStand L out) img (o .image)
     pub ok : Ok (o .rest) out′ (o .image)
     pub less : (k : ℕ) → In k out → In k out′
     pub end : (o .answer ≡ Full) ⊎ ((k : ℕ) × Got out img f s o out′ k)
@@ -65,7 +65,7 @@ module _ {W : Type 0} (B N : ℕ) (health : List ℕ) (tries : W → ℕ) (alloc
       end = go (g .end);
     }
       where
-        known : {k′ : ℕ} → Standing L out k′ → Standing L (k ∷ out) k′
+        known : {k′ : ℕ} → MustStand L out k′ → MustStand L (k ∷ out) k′
         known (inl a) = inl a
         known (inr a) = inr (inr a)
 
@@ -109,12 +109,12 @@ module _ {W : Type 0} (B N : ℕ) (health : List ℕ) (tries : W → ℕ) (alloc
       );
     }
       where
-        all : Stays B (Standing L out) img (o .image)
+        all : Stays B (MustStand L out) img (o .image)
         all k′ o′ u l = v .made .others k′ o′ (t .new k′ u) l ∙ e k′ o′ (t .new k′ u) l
 
     -- A growth of a sound list takes a block that was not known, or finds none; nothing that was known changes.
     pub growing : (m : ℕ) (w : W) (out img : List ℕ) → CardFacts B N (length img) → Ok w out img → Holds B N img f s → (0 < s → f (indexAt B (s - 1)) ≡ head)
-        → ((i : ℕ) → start B i < s → Standing L out (f i)) → Growing out img f s (growOf alloc m w health B N head s img)
+        → ((i : ℕ) → start B i < s → MustStand L out (f i)) → Growing out img f s (growOf alloc m w health B N head s img)
     unfolding growOf
     growing zero w out img c ok h t cl = record {
       out′ = out;
@@ -128,7 +128,7 @@ module _ {W : Type 0} (B N : ℕ) (health : List ℕ) (tries : W → ℕ) (alloc
       where
         by : (a : Took W) → alloc w img ≡ a
             → ((w : W) (out img : List ℕ) → CardFacts B N (length img) → Ok w out img → Holds B N img f s → (0 < s → f (indexAt B (s - 1)) ≡ head)
-            → ((i : ℕ) → start B i < s → Standing L out (f i)) → Growing out img f s (growOf alloc m w health B N head s img))
+            → ((i : ℕ) → start B i < s → MustStand L out (f i)) → Growing out img f s (growOf alloc m w health B N head s img))
             → Growing out img f s (growOf alloc (suc m) w health B N head s img)
         by (None w′) e ih =
             rw (growOf, e) (record {
@@ -154,10 +154,10 @@ module _ {W : Type 0} (B N : ℕ) (health : List ℕ) (tries : W → ℕ) (alloc
             hw : Holds B N (wiped B img k) f s
             hw = moves B N (c .sized) img (wiped B img k) f s h (λ i o′ u l. ow (f i) o′ (tk .new (f i) (cl i u)) l)
 
-            cl′ : (i : ℕ) → start B i < s → Standing L (k ∷ out) (f i)
+            cl′ : (i : ℕ) → start B i < s → MustStand L (k ∷ out) (f i)
             cl′ i u = known (cl i u)
               where
-                known : {k′ : ℕ} → Standing L out k′ → Standing L (k ∷ out) k′
+                known : {k′ : ℕ} → MustStand L out k′ → MustStand L (k ∷ out) k′
                 known (inl a) = inl a
                 known (inr a) = inr (inr a)
 

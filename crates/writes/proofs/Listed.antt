@@ -11,7 +11,7 @@ use Rattle.store.specs.Write.{Job, new, Look, Found}
 use Rattle.writes.proofs.Holds.{used}
 use Rattle.writes.proofs.Stands.{others-stand}
 use Rattle.writes.proofs.Writes.{Outcome, write-plain}
-use Rattle.writes.proofs.Allocators.{In, Standing, Stays, Allotted, Allocator}
+use Rattle.writes.proofs.Allocators.{In, Stays, Allotted, Allocator, MustStand}
 use Rattle.trials.specs.Loop.{Took, Block, None, Bad}
 use Rattle.store.specs.inner.Write.{putOf}
 use Rattle.card.specs.inner.Cards.{CardFacts, cardWith}
@@ -65,7 +65,7 @@ module _ (B N : ℕ) (health ks₀ : List ℕ) where
             fewer = omega arith;
           })
         where
-          new-one : (k′ : ℕ) → Standing (Rest ks₀) out k′ → x ≢ k′
+          new-one : (k′ : ℕ) → MustStand (Rest ks₀) out k′ → x ≢ k′
           new-one k′ (inl a) = o .listed k′ a .0
           new-one k′ (inr a) = o .before k′ a .0
 

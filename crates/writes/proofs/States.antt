@@ -10,7 +10,7 @@ use Rattle.writes.proofs.Plain.{overAt}
 use Rattle.writes.proofs.Holds.{moves, byte-moves, Holds}
 use Rattle.writes.proofs.Grows.{Growing}
 use Rattle.writes.proofs.Cells.{cell, byteBy, bytesBy}
-use Rattle.writes.proofs.Allocators.{Standing, Stays, Allocator}
+use Rattle.writes.proofs.Allocators.{Stays, Allocator, MustStand}
 use Rattle.trials.specs.Loop.{Took}
 use Rattle.grow.specs.Extend.{GrowOut}
 use Rattle.card.specs.inner.Cards.{CardFacts}
@@ -34,7 +34,7 @@ pub record Between {W : Type 0} (B N : ℕ) (j : Job) (L : ℕ → Type 0) (Ok :
   pub ok : Ok w out img
   pub holds : Holds B N img f s
   pub top : 0 < s → f (indexAt B (s - 1)) ≡ h
-  pub clear : (i : ℕ) → start B i < s → Standing L out (f i)
+  pub clear : (i : ℕ) → start B i < s → MustStand L out (f i)
   pub stays : Stays B L img₀ img
   pub reads : (p : ℕ) → p < s → byteBy B img f p ≡ want B j img₀ f₀ p
   pub from : kept j ≤ s
@@ -54,7 +54,7 @@ module _ {W : Type 0} (B N : ℕ) (health : List ℕ) (tries : W → ℕ) (alloc
   stood k o′ u l = g .stays k o′ (inl u) l ∙ st .stays k o′ u l
 
   -- what was known still is
-  pub known : {k : ℕ} → Standing L out k → Standing L (g .out′) k
+  pub known : {k : ℕ} → MustStand L out k → MustStand L (g .out′) k
   known (inl a) = inl a
   known {k} (inr a) = inr (g .less k a)
 

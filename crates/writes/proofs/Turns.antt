@@ -21,7 +21,7 @@ use Rattle.writes.proofs.Plain.{over-low, over-mid, over-high}
 use Rattle.writes.proofs.Widths as widths
 use Rattle.writes.proofs.Widths.{share}
 use Rattle.writes.proofs.States.{want, Begin, Between, stood, known}
-use Rattle.writes.proofs.Allocators.{Standing, Stays, Allocator}
+use Rattle.writes.proofs.Allocators.{Stays, Allocator, MustStand}
 use Rattle.trials.specs.Loop.{Took}
 use Rattle.grow.specs.Extend.{GrowOut}
 use Rattle.store.specs.inner.Write.{fronted}
@@ -164,10 +164,10 @@ module _ {W : Type 0} (look : List ℕ → ℕ → Look) (B N : ℕ) (health : L
         before : (i′ : ℕ) → start B i′ < s + wd → i′ ≢ i → (i′ < i) × (start B i′ < s)
         before i′ u ne = earlier B N sized (w .mid) img′ f s k i hm refl (w .low) free made (s + wd) i′ ends u ne
 
-        clear-at : (i′ : ℕ) → start B i′ < s + wd → (t : Bool) → eqb i′ i ≡ t → Standing L (g .out′) (put f i k i′)
-        clear-at i′ u true e = subst (λ (z : ℕ). Standing L (g .out′) z) (sym (ap (put f i k) (eqb-true i′ i e) ∙ put-same f i k)) (inr (w .fresh))
+        clear-at : (i′ : ℕ) → start B i′ < s + wd → (t : Bool) → eqb i′ i ≡ t → MustStand L (g .out′) (put f i k i′)
+        clear-at i′ u true e = subst (λ (z : ℕ). MustStand L (g .out′) z) (sym (ap (put f i k) (eqb-true i′ i e) ∙ put-same f i k)) (inr (w .fresh))
         clear-at i′ u false e =
-            subst (λ (z : ℕ). Standing L (g .out′) z) (sym (put-other f i k i′ (eqb-false i′ i e)))
+            subst (λ (z : ℕ). MustStand L (g .out′) z) (sym (put-other f i k i′ (eqb-false i′ i e)))
             (known B N health tries alloc L Ok al j img₀ f₀ w₀ out img f h s st o g (st .clear i′ (before i′ u (eqb-false i′ i e) .1)))
 
         read-at : (p : ℕ) → p < s + wd → (p < s) ⊎ (s ≤ p) → byteBy B img′ (put f i k) p ≡ want B j img₀ f₀ p

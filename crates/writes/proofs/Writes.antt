@@ -17,7 +17,7 @@ use Rattle.writes.proofs.Looks.{wanted-looked}
 use Rattle.writes.proofs.States.{want, Begin, Between}
 use Rattle.writes.proofs.Loops.{Ended, done, short, writing}
 use Rattle.writes.proofs.Cells.{bytesBy}
-use Rattle.writes.proofs.Allocators.{In, Standing, Stays, Allocator}
+use Rattle.writes.proofs.Allocators.{In, Stays, Allocator, MustStand}
 use Rattle.trials.specs.Loop.{Took, Written, NoRoom, WriteOut}
 use Rattle.store.specs.inner.Write.{writeOf, putOf}
 use Rattle.layout.specs.inner.Served.{BlockSized, blockList}
@@ -139,7 +139,7 @@ module _ {W : Type 0} (look : List ℕ → ℕ → Look) (B N : ℕ) (health : L
       is : (i : ℕ) → start B i < new j → blockAt B (o .image) (blockList h (new j)) i ≡ f i
       is = at-is B N sized (o .image) f h (new j) (st .holds) (st .top)
 
-      handed : {k : ℕ} → Standing L out k → ((k′ : ℕ) → L k′ → k ≢ k′) → In k out
+      handed : {k : ℕ} → MustStand L out k → ((k′ : ℕ) → L k′ → k ≢ k′) → In k out
       handed {k} (inl a) ne = absurd (ne k a refl)
       handed (inr a) ne = a
 
