@@ -15,7 +15,7 @@ use Rattle.files.proofs.Laws.{join-ok, GoodEntry}
 use Rattle.files.proofs.Lists.{held-of, of-ok}
 use Rattle.saved.specs.declared.Loading.the-variants as loading
 use Rattle.saved.specs.declared.Loaded.{Loaded}
-use Rattle.saved.specs.Load.{Reading, damaged, read, readUpTo, readHead, readSize, readEntry, readFiles, finish, loadOf, fileBefore, thenRead}
+use Rattle.saved.specs.Load.{damaged, read, readUpTo, readHead, readSize, readEntry, readFiles, finish, loadOf, fileBefore, thenRead, Parsed}
 use Rattle.saved.specs.Save.{headBytes, entryBytes, filesBytes, saveOf, groups}
 use Rattle.saved.proofs.Numbers.{Bytes, InRange, up-to-was, reading-cases}
 use Rattle.saved.proofs.Steps.{head-none, head-some}
@@ -158,7 +158,7 @@ pub record Exact (t : Table) (bs : List ℕ) : Type 0 where
   pub zeroed : tableOf (held t) ≡ t
   pub written : saveOf t ≡ bs
 
-finish-was : (t : Table) (r : Reading (List Entry)) → finish r ≡ record { answer = loading.Done; table = t } → (es : List Entry) × ((r ≡ read es []) × (tableOf es ≡ t))
+finish-was : (t : Table) (r : Parsed (List Entry)) → finish r ≡ record { answer = loading.Done; table = t } → (es : List Entry) × ((r ≡ read es []) × (tableOf es ≡ t))
 unfolding finish
 finish-was t damaged q = let z : _≡_ {A = ℕ} 0 1 = cc (ap (λ (x : Loaded). x .answer) q) in absurd (omega arith)
 finish-was t (read es []) q = (es, (refl, ap (λ (x : Loaded). x .table) q))

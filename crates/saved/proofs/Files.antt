@@ -16,7 +16,7 @@ use Rattle.saved.specs.declared.read.EntryRead.{EntryRead}
 use Rattle.saved.specs.declared.read.EntryRead.the-variants as entry
 use Rattle.saved.specs.declared.Loading.the-variants as loading
 use Rattle.saved.specs.declared.Loaded.{Loaded}
-use Rattle.saved.specs.Load.{Reading, damaged, read, readUpTo, readEntry, readSize, readFiles, refusedLoad, finish, loadOf, fileBefore}
+use Rattle.saved.specs.Load.{damaged, read, readUpTo, readEntry, readSize, readFiles, refusedLoad, finish, loadOf, fileBefore, Parsed}
 use Rattle.saved.specs.inner.Steps.{numberTold, NumberPost, entryTold, EntryPost}
 use Rattle.saved.proofs.Numbers.{Bytes, up-to-le}
 use Rattle.saved.proofs.Steps.{head-no, head-yes, size-no, size-empty, size-some, entry-no, entry-low, entry-yes, files-no, files-yes, load-no, load-yes}
@@ -89,16 +89,16 @@ entry-small bytes p least r e next b q f =
     entry-was least e (drop p bytes) (drop next bytes) (drop-bytes bytes p b) (q .told ∙ ap (entryTold bytes) f) .good .number-le
 
 -- files that were read before those that follow
-unfoldable pub behind : List Entry → Reading (List Entry) → Reading (List Entry)
+unfoldable pub behind : List Entry → Parsed (List Entry) → Parsed (List Entry)
 behind es damaged = damaged
 behind es (read fs rest) = read (es ++ fs) rest
 
-behind-none : (r : Reading (List Entry)) → r ≡ behind [] r
+behind-none : (r : Parsed (List Entry)) → r ≡ behind [] r
 unfolding behind
 behind-none damaged = refl
 behind-none (read fs rest) = refl
 
-behind-before : (es : List Entry) (e : Entry) (r : Reading (List Entry)) → behind es (fileBefore e r) ≡ behind (es ++ (e ∷ [])) r
+behind-before : (es : List Entry) (e : Entry) (r : Parsed (List Entry)) → behind es (fileBefore e r) ≡ behind (es ++ (e ∷ [])) r
 unfolding behind fileBefore
 behind-before es e damaged = refl
 behind-before es e (read fs rest) = ap (λ (l : List Entry). read l rest) (sym (append-snoc es e fs))

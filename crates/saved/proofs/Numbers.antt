@@ -9,7 +9,7 @@ use lib.ListN.{length, getD}
 use borrow.Author.Tests.{lt-ltb, le-ltb, le-leb, eq-eqb, ne-eqb}
 use Rattle.files.proofs.Tests.{ltb-cases, leb-cases, eqb-cases}
 use Rattle.saved.specs.inner.Steps.{Counted}
-use Rattle.saved.specs.Load.{Reading, damaged, read, readNumber, upTo, readUpTo, thenRead, groupBefore}
+use Rattle.saved.specs.Load.{damaged, read, readNumber, upTo, readUpTo, thenRead, groupBefore, Parsed}
 use Rattle.saved.specs.Save.{groups, groupsBy}
 
 -- more room changes nothing
@@ -130,7 +130,7 @@ last-was b n bs rest l h e =
     let y : bs ≡ rest = cc in
     record { written = rw (← x, ← y, groups-last b l); after = rw (← y) (tail-bytes b bs h) }
 
-more-was : (b n : ℕ) (bs rest : List ℕ) → 128 ≤ b → Bytes (b ∷ bs) → (r : Reading ℕ) → ((v : ℕ) (w : List ℕ) → r ≡ read v w → WasRead v w bs)
+more-was : (b n : ℕ) (bs rest : List ℕ) → 128 ≤ b → Bytes (b ∷ bs) → (r : Parsed ℕ) → ((v : ℕ) (w : List ℕ) → r ≡ read v w → WasRead v w bs)
     → groupBefore b r ≡ read n rest → WasRead n rest (b ∷ bs)
 unfolding groupBefore
 more-was b n bs rest l h damaged ih = λ e. let z : _≡_ {A = ℕ} 0 1 = cc in absurd (omega arith)
@@ -160,7 +160,7 @@ pub up-to : (limit n : ℕ) (rest : List ℕ) → n ≤ limit → readUpTo limit
 unfolding readUpTo upTo
 up-to limit n rest h = rw (read-groups n rest, upTo, thenRead, le-leb n limit h)
 
-pub reading-cases : {A : Type 0} (r : Reading A) (P : Reading A → Type 0) → (r ≡ damaged → P damaged) → ((a : A) (w : List ℕ) → r ≡ read a w → P (read a w)) → P r
+pub reading-cases : {A : Type 0} (r : Parsed A) (P : Parsed A → Type 0) → (r ≡ damaged → P damaged) → ((a : A) (w : List ℕ) → r ≡ read a w → P (read a w)) → P r
 reading-cases damaged P f g = f refl
 reading-cases (read a w) P f g = g a w refl
 

@@ -13,16 +13,16 @@ use borrow.Author.Tests.{lt-ltb, le-ltb, le-leb, lt-leb, eq-eqb, ne-eqb}
 use Rattle.files.proofs.Tests.{eqb-cases, leb-cases, bool-cases}
 use Rattle.saved.specs.declared.read.NumberRead.{NumberRead}
 use Rattle.saved.specs.declared.read.NumberRead.the-variants as number
-use Rattle.saved.specs.Load.{Reading, damaged, read, readNumber, upTo, readUpTo, thenRead, groupBefore}
+use Rattle.saved.specs.Load.{damaged, read, readNumber, upTo, readUpTo, thenRead, groupBefore, Parsed}
 use Rattle.saved.specs.inner.Steps.{Scaled, lastOf, numberTold, numberNext, NumberPost}
 use Rattle.saved.proofs.Numbers.{read-last, read-more, more-some, more-none}
 
 -- a number that follows groups worth `value`, and counts `scale`-fold
-unfoldable pub join : ℕ → ℕ → Reading ℕ → Reading ℕ
+unfoldable pub join : ℕ → ℕ → Parsed ℕ → Parsed ℕ
 join value scale damaged = damaged
 join value scale (read w rest) = elim (ltb 1 scale && eqb w 0) [ true ↦ damaged | false ↦ read (value + scale * w) rest ]
 
-pub join-start : (r : Reading ℕ) → r ≡ join 0 1 r
+pub join-start : (r : Parsed ℕ) → r ≡ join 0 1 r
 unfolding join
 join-start damaged = refl
 join-start (read w rest) = ap (λ (x : ℕ). read x rest) (omega arith)
@@ -53,7 +53,7 @@ regroup : (value scale d w : ℕ) → value + scale * (d + 128 * w) ≡ value + 
 regroup value scale d w = rw (mul-add scale d (128 * w), ← mul-assoc scale 128 w, ← add-assoc value (scale * d) (scale * 128 * w))
 
 -- a group that is not the last
-pub join-more : (value scale b : ℕ) → zero < scale → (r : Reading ℕ) → join value scale (groupBefore b r) ≡ join (value + scale * (b - 128)) (scale * 128) r
+pub join-more : (value scale b : ℕ) → zero < scale → (r : Parsed ℕ) → join value scale (groupBefore b r) ≡ join (value + scale * (b - 128)) (scale * 128) r
 join-more value scale b h damaged = rw (more-damaged b) (join-damaged value scale ∙ sym (join-damaged (value + scale * (b - 128)) (scale * 128)))
 join-more value scale b h (read w rest) =
     eqb-cases w 0 (λ _. join value scale (groupBefore b (read w rest)) ≡ join (value + scale * (b - 128)) (scale * 128) (read w rest))
@@ -64,7 +64,7 @@ join-more value scale b h (read w rest) =
     ∙ sym (join-some (value + scale * (b - 128)) (scale * 128) w rest z)))
 
 -- too large, whatever follows
-pub join-large : (limit value scale : ℕ) → limit < scale → 1 < scale → (r : Reading ℕ) → upTo limit (join value scale r) ≡ damaged
+pub join-large : (limit value scale : ℕ) → limit < scale → 1 < scale → (r : Parsed ℕ) → upTo limit (join value scale r) ≡ damaged
 unfolding upTo
 join-large limit value scale h k damaged = rw (join-damaged value scale)
 join-large limit value scale h k (read w rest) =
@@ -132,7 +132,7 @@ module _ (bytes : List ℕ) (at limit value scale i : ℕ) (inv : readUpTo limit
       let d : drop i bytes ≡ b ∷ drop (i + 1) bytes = rw (e, add-one i) (drop-cons bytes i 0 l) in
       rw q
       (record {
-        told = inv ∙ ap (λ (x : Reading ℕ). upTo limit (join value scale x)) (ap readNumber d ∙ read-last b (drop (i + 1) bytes) h)
+        told = inv ∙ ap (λ (x : Parsed ℕ). upTo limit (join value scale x)) (ap readNumber d ∙ read-last b (drop (i + 1) bytes) h)
             ∙ last-is bytes value scale b limit (i + 1);
         next-le = omega (arith, last-next value scale b limit (i + 1));
       })

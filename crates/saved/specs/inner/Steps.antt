@@ -10,7 +10,7 @@ use Rattle.saved.specs.declared.read.NumberRead.{NumberRead}
 use Rattle.saved.specs.declared.read.NumberRead.the-variants as number
 use Rattle.saved.specs.declared.read.EntryRead.{EntryRead}
 use Rattle.saved.specs.declared.read.EntryRead.the-variants as entry
-use Rattle.saved.specs.Load.{Reading, damaged, read, readUpTo, readEntry}
+use Rattle.saved.specs.Load.{damaged, read, readUpTo, readEntry, Parsed}
 
 -- as long as these bytes, which are at most `most`
 pub record Counted (bytes : List ℕ) (most r : ℕ) : Type 0 where
@@ -31,7 +31,7 @@ lastOf value scale b limit next =
     ]
 
 -- a number and its place, as what was read and the bytes that follow
-abbrev pub numberTold : List ℕ → NumberRead → Reading ℕ
+abbrev pub numberTold : List ℕ → NumberRead → Parsed ℕ
 numberTold bytes (number.At value next) = read value (drop next bytes)
 numberTold bytes number.Damaged = damaged
 
@@ -46,7 +46,7 @@ pub record NumberPost (bytes : List ℕ) (at limit : ℕ) (r : NumberRead) : Typ
   pub next-le : numberNext r ≤ length bytes
 
 -- the same of a file
-abbrev pub entryTold : List ℕ → EntryRead → Reading Entry
+abbrev pub entryTold : List ℕ → EntryRead → Parsed Entry
 entryTold bytes (entry.At e next) = read e (drop next bytes)
 entryTold bytes entry.Damaged = damaged
 
