@@ -20,8 +20,7 @@ use Rattle.windows.proofs.Views.{Became, CleanWindow}
 use Rattle.windows.proofs.Has.{else-false}
 use Rattle.windows.proofs.Listed.{became-set, unseen}
 use Rattle.alloc.specs.Visits.{seenOf, visitsOf}
-use Rattle.store.specs.Store.{jobOf}
-use Rattle.store.specs.Write.{kept}
+use Rattle.old_list.specs.Write.{kept, jobOf}
 use Rattle.writes.proofs.Holds.{either}
 use Rattle.writes.proofs.Index.{in-block, start-lt}
 use Rattle.demands.specs.Came.{Among, here, there}

@@ -20,8 +20,8 @@ use Rattle.windows.proofs.Came.{empty-clean}
 use Rattle.windows.proofs.Rotate.{whole-circle}
 use Rattle.windows.proofs.Space.{knows, same-used, none-left, clean-used, listed-used}
 use Rattle.alloc.specs.Visits.{seenIn, listedIn, visitsOf}
-use Rattle.store.specs.Write.{zeros, new, kept}
-use Rattle.store.specs.Store.{jobOf, written, writtenOf}
+use Rattle.old_list.specs.Write.{zeros, new, kept, jobOf}
+use Rattle.store.specs.Store.{written, writtenOf}
 use Rattle.store.specs.Asked.{WriteAsked, TruncateAsked}
 use Rattle.store.proofs.Tested.{tests, file-most}
 use Rattle.store.proofs.Calls as calls
@@ -40,13 +40,14 @@ use Rattle.grow.specs.Setting.{Setting, State, testedOf, tested}
 use Rattle.demands.proofs.Records.{shape}
 use Rattle.grow.specs.inner.Extend.{windowAlloc}
 use Rattle.trials.specs.Loop.{Writing, Written, NoRoom, Corrupt, WriteOut}
-use Rattle.store.specs.inner.Store.{lookIn, puts}
 use Rattle.layout.specs.inner.Served.{BlockSized, geometry}
 use Rattle.card.specs.inner.Cards.{CardFacts, cardWith}
 use Rattle.window.specs.inner.Facts.{ValidWindow, GoodScope, scope}
 use Rattle.windows.specs.Space.{markedIn}
 use Rattle.grow.specs.inner.Setting.{setting}
 use Rattle.store.specs.inner.Calls.{askWrite}
+use Rattle.old_list.specs.inner.Lookups.{lookIn}
+use Rattle.new_list.specs.inner.Put.{puts}
 
 -- what a write of at least one byte to an entry answers where it is not -84
 pub record Decided (B N l needed free : ℕ) (o : WriteOut Lookahead) : Type 0 where

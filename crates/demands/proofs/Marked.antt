@@ -19,7 +19,7 @@ use Rattle.window.specs.Allocate.{allocBy, allocOf, skip, takeOf}
 use Rattle.window.specs.Scan.{markAll, markMap, cleared, listedOf, scanOf, seenAll}
 use Rattle.window.specs.Value.{lookaheadFits, validOf}
 use Rattle.alloc.specs.Visits.{seenIn, listedIn}
-use Rattle.store.specs.Write.{ahead, then, tail, trialOf, starts, wanted, looked, firstHead}
+use Rattle.old_list.specs.Write.{ahead, then, tail, trialOf, starts, wanted, looked, firstHead}
 use Rattle.trials.specs.Steps.{done, series, programs}
 use Rattle.trials.specs.Trial.{takenBy}
 use Rattle.trials.specs.Loop.{tried, followed, turnOf, writeBy}

@@ -7,7 +7,7 @@ use native.Mathlib.Omega.{arith}
 use borrow.Author.Tests.{lt-ltb, le-ltb}
 use lib.ListN.{length, getD, take, drop, length-append, length-replicate, getD-replicate, length-drop, List·getD-append, List·getD-eq-default, drop-of-length-le}
 use lib.Seq.{ext-getD, getD-take, getD-drop, getD-append-add, length-take-le, take-all}
-use Rattle.store.specs.Write.{zeros}
+use Rattle.old_list.specs.Write.{zeros}
 use Rattle.writes.proofs.Holds.{either}
 use Rattle.writes.proofs.Plain.{Overwritten}
 use Rattle.demands.specs.Plain.{overwrite, plainWrite}

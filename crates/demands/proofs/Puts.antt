@@ -29,10 +29,10 @@ use Rattle.demands.proofs.Overwrites.{wrote-some, wrote-none}
 use Rattle.layout.specs.Numbers.{sizeMax}
 use Rattle.grow.specs.Setting.{State, testedOf}
 use Rattle.trials.specs.Loop.{Writing, WriteOut}
-use Rattle.store.specs.inner.Store.{puts}
 use Rattle.grow.specs.inner.Setting.{setting, state}
 use Rattle.store.specs.inner.Calls.{askWrite}
 use Rattle.layout.specs.inner.Served.{blockList}
+use Rattle.new_list.specs.inner.Put.{puts}
 
 module _ {B N l : ℕ} {s : State} (h : Held B N l s) (health : List ℕ) (number : ℕ) where
   abbrev t : Table

@@ -12,7 +12,7 @@ use Rattle.span.proofs.Parts.{sets-over}
 use Rattle.files.proofs.Tests.{leb-cases, bool-cases}
 use Rattle.reading.specs.declared.Reading.the-variants as reading
 use Rattle.reading.specs.Calls.{readOf}
-use Rattle.store.specs.Write.{zeros}
+use Rattle.old_list.specs.Write.{zeros}
 use Rattle.demands.specs.Calls.{write, after, Shape, under}
 use Rattle.demands.specs.Came.{Sounds, Came}
 use Rattle.demands.specs.Plain.{PlainFile, plainChange, plainCode, hasFile, fileBytes, plainWrite, meets, refused, overwrite}

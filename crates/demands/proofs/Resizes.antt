@@ -20,7 +20,7 @@ use Rattle.files.proofs.Tests.{ltb-cases, eqb-cases}
 use Rattle.plain.specs.Bytes.{bytes}
 use Rattle.plain.proofs.Files.{bytes-length}
 use Rattle.plain.proofs.Finding.{walk-sound, lookup-sound}
-use Rattle.store.specs.Write.{zeros}
+use Rattle.old_list.specs.Write.{zeros}
 use Rattle.store.specs.Store.{StoreOut, written, writtenOf, storeTruncate}
 use Rattle.store.proofs.Calls as calls
 use Rattle.store.proofs.Files as files
@@ -41,13 +41,14 @@ use Rattle.demands.proofs.Steps.{resized-less, resized-more, empty-byte
 use Rattle.layout.specs.Numbers.{sizeMax, nullBlock}
 use Rattle.grow.specs.Setting.{State, testedOf}
 use Rattle.trials.specs.Loop.{Writing, WriteOut}
-use Rattle.store.specs.inner.Store.{puts, shrunk}
+use Rattle.store.specs.inner.Store.{shrunk}
 use Rattle.grow.specs.inner.Setting.{setting, state}
 use Rattle.store.specs.inner.Calls.{askTruncate}
 use Rattle.hops.specs.inner.Ways.{way}
 use Rattle.card.specs.inner.Cards.{cardWith}
 use Rattle.layout.specs.inner.Served.{blockList}
 use Rattle.plain.specs.inner.Forms.{GoodList}
+use Rattle.new_list.specs.inner.Put.{puts}
 
 -- a truncate to the length that a plain file has
 resized-same : {number m : ℕ} {e : Entry} {es : List Entry} (B : ℕ) (img : List ℕ) (size : ℕ) → Placed number e m es → length (bytes B img (blockList (e .head) (e .size))) ≡ size

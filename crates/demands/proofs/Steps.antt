@@ -20,7 +20,7 @@ use Rattle.files.proofs.Cases as cases
 use Rattle.files.proofs.Kept.{create-ok, remove-ok}
 use Rattle.files.proofs.Tests.{ltb-cases}
 use Rattle.plain.specs.Bytes.{bytes, span}
-use Rattle.store.specs.Write.{zeros}
+use Rattle.old_list.specs.Write.{zeros}
 use Rattle.demands.specs.Calls.{create, remove, changedIn}
 use Rattle.demands.specs.Plain.{PlainFile, plainCode, resized}
 use Rattle.demands.specs.Runs.{fileIn, filesIn}

@@ -23,8 +23,7 @@ use Rattle.window.specs.Value.{checkpointOf}
 use Rattle.windows.proofs.Views.{During, Became, Lists, CleanWindow}
 use Rattle.windows.proofs.InCall.{begins, clean-after}
 use Rattle.alloc.specs.Visits.{seenIn, visitsOf}
-use Rattle.store.specs.Store.{jobOf, lookOf}
-use Rattle.store.specs.Write.{kept, Found}
+use Rattle.old_list.specs.Write.{kept, Found, lookOf, jobOf}
 use Rattle.writes.proofs.Writes as writes
 use Rattle.demands.proofs.Files.{bytes-is}
 use Rattle.demands.proofs.Windows.{Listed, InCall, windowed, in-has}
@@ -36,7 +35,6 @@ use Rattle.demands.specs.Plain.{overwrite}
 use Rattle.demands.proofs.Overwrites.{overwritten-is}
 use Rattle.grow.specs.inner.Extend.{windowAlloc}
 use Rattle.trials.specs.Loop.{Written, NoRoom, WriteOut}
-use Rattle.store.specs.inner.Store.{lookIn, puts}
 use Rattle.card.specs.inner.Cards.{CardFacts, cardWith}
 use Rattle.layout.specs.inner.Served.{geometry, blockList}
 use Rattle.hops.specs.inner.Ways.{way}
@@ -44,6 +42,8 @@ use Rattle.plain.specs.inner.Forms.{GoodList}
 use Rattle.plain.proofs.Same.{SameBlocks}
 use Rattle.window.specs.inner.Facts.{ValidWindow, GoodScope}
 use Rattle.store.specs.inner.Calls.{askWrite}
+use Rattle.old_list.specs.inner.Lookups.{lookIn}
+use Rattle.new_list.specs.inner.Put.{puts}
 
 -- What a call is given: a card of sound lists, and a window that is valid and clean for them.
 pub record Before (B N l : ℕ) (files : List Entry) (w : Lookahead) (img : List ℕ) : Type 0 where

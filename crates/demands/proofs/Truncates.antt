@@ -27,7 +27,7 @@ use Rattle.windows.proofs.Has.{else-false}
 use Rattle.windows.proofs.Came.{fewer-clean}
 use Rattle.windows.proofs.Listed.{became-set, unseen}
 use Rattle.alloc.specs.Visits.{seenOf, visitsOf}
-use Rattle.store.specs.Write.{zeros}
+use Rattle.old_list.specs.Write.{zeros}
 use Rattle.demands.proofs.Tables.{listedBy, visit-told, of-sounds}
 use Rattle.demands.proofs.Store.{Before}
 use Rattle.demands.proofs.Again.{AtPlace, among-at, sounds-set, visits-set, visits-at}

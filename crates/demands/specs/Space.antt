@@ -15,7 +15,7 @@ use Rattle.files.specs.Table.{held, listOf}
 use Rattle.alloc.specs.Visits.{listedIn}
 use Rattle.grow.specs.Setting.{Setting, State, cardIn, tested}
 use Rattle.store.specs.Asked.{WriteAsked, TruncateAsked}
-use Rattle.store.specs.Write.{zeros}
+use Rattle.old_list.specs.Write.{zeros}
 use Rattle.demands.specs.Calls.{Left}
 use Rattle.windows.specs.Space.{usedFor, markedIn, goodUnused}
 

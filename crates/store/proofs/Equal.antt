@@ -21,8 +21,8 @@ use Rattle.grow.proofs.Spoils.{spoils-stored, spoils-empty, spoils-damaged, spo
 use Rattle.grow.proofs.Turns.{grow-none, grow-bad, grow-kept, grow-spoiled, grow-linked}
 use Rattle.grow.proofs.Links.{link-empty, link-damaged}
 use Rattle.grow.proofs.Growths.{growth-some, growth-lost}
-use Rattle.store.specs.Write.{Job, Look, over, new, trialOf}
-use Rattle.store.specs.inner.Write.{grownOf, writeOf}
+use Rattle.old_list.specs.Write.{Job, Look, over, new, trialOf}
+use Rattle.new_list.specs.inner.Write.{grownOf, writeOf}
 use Rattle.store.proofs.Parts.{trial-stops}
 use Rattle.store.proofs.Tried.{nested, plan, looped, after, after-bad, Goes, link-good, refuses, loses, trial-some, first-some}
 use Rattle.card.specs.inner.Cards.{CardFacts}

@@ -18,8 +18,8 @@ use Rattle.trials.specs.Steps.{done, series, programs}
 use Rattle.trials.specs.Trial.{takenBy}
 use Rattle.trials.specs.Loop.{Took, Block, None, WriteOut, Written, NoRoom, tried, followed, turnOf, writeBy}
 use Rattle.grow.specs.Growth.{links, growth}
-use Rattle.store.specs.Write.{Look, kept, ahead, then, tail, trialOf, planOf, starts, wanted, looked, firstHead}
-use Rattle.store.specs.Store.{lookOn, jobOf}
+use Rattle.old_list.specs.Write.{Look, kept, ahead, then, tail, trialOf, planOf, starts, wanted, looked, firstHead, jobOf}
+use Rattle.store.specs.Store.{lookOn}
 use Rattle.card.specs.Card.{pointer}
 use Rattle.card.specs.inner.Cards.{cardWith}
 use Rattle.layout.specs.inner.Served.{blockList}

@@ -15,20 +15,21 @@ use Rattle.window.specs.declared.Lookahead.{Lookahead}
 use Rattle.store.specs.declared.Outcome.{Outcome}
 use Rattle.store.specs.declared.Outcome.the-variants as outcome
 use Rattle.store.specs.declared.Stored.{Stored}
-use Rattle.store.specs.declared.growths.Writing as declared
-use Rattle.store.specs.declared.growths.Writing.the-variants as writing
-use Rattle.store.specs.declared.growths.Wrote.{Wrote}
-use Rattle.store.specs.Write.{zeros}
+use Rattle.new_list.specs.declared.Writing as declared
+use Rattle.new_list.specs.declared.Writing.the-variants as writing
+use Rattle.new_list.specs.declared.Wrote.{Wrote}
+use Rattle.old_list.specs.Write.{zeros}
 use Rattle.store.specs.Store.{storedOf, StoreOut, left, written, writtenOf}
-use Rattle.store.specs.inner.Put.{wroteOf, WroteGives, finishOf}
-use Rattle.store.proofs.Puts.{puts-as-gap}
+use Rattle.new_list.specs.inner.Put.{wroteOf, WroteGives, puts}
+use Rattle.new_list.proofs.Puts.{puts-as-gap}
 use Rattle.layout.specs.Numbers.{sizeMax, nullBlock}
 use Rattle.trials.specs.Loop.{Writing, Written, NoRoom, Corrupt, WriteOut}
-use Rattle.store.specs.inner.Store.{puts, stays, writeFile, shrunk, shrinks, truncateFile}
+use Rattle.store.specs.inner.Store.{stays, writeFile, shrunk, shrinks, truncateFile}
 use Rattle.card.specs.inner.Cards.{cardWith}
 use Rattle.layout.specs.inner.Served.{blockList}
 use Rattle.files.specs.Change.{withList}
 use Rattle.store.specs.inner.Gives.{StoreGives}
+use Rattle.store.specs.inner.Calls.{finishOf}
 
 pub gives : {o : StoreOut} {a : Outcome} {w : Lookahead} {t : Table} {image : List ℕ} {r : Stored} → o ≡ left a w t image → r ≡ stays a w t
     → StoreGives o r image

@@ -8,9 +8,9 @@ use Rattle.layout.specs.Layout.{pointers, start, indexAt, offsetAt}
 use Rattle.device.specs.Device.{stored}
 use Rattle.device.proofs.Frame.{stored-append}
 use Rattle.grow.specs.inner.Grow.{part}
-use Rattle.store.specs.Write.{zeros, Job, over, lead, ahead}
-use Rattle.store.specs.inner.Write.{fronted, tailed}
+use Rattle.old_list.specs.Write.{zeros, Job, over, lead, ahead}
 use Rattle.device.specs.inner.Bounds.{spot}
+use Rattle.new_block.specs.inner.Fill.{fronted, tailed}
 
 zeros-front : (m n z : ℕ) (ys : List ℕ) → z ≡ min m n → take n (replicate m 0 ++ ys) ≡ replicate z 0 ++ take (n - z) ys
 zeros-front zero n zero ys e = let d : n - 0 ≡ n = omega arith in rw d

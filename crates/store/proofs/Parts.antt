@@ -12,7 +12,7 @@ use Rattle.trials.specs.Loop.{Place}
 use Rattle.grow.specs.Growth.{offset, with, growth}
 use Rattle.grow.specs.inner.Grow.{part}
 use Rattle.grow.proofs.Pointed.{part-block}
-use Rattle.store.specs.Write.{Job, Look, Found, Lost, lead, ahead, then, width, tail, trialOf}
+use Rattle.old_list.specs.Write.{Job, Look, Found, Lost, lead, ahead, then, width, tail, trialOf}
 
 pub length-ahead : (j : Job) (s : ℕ) → length (ahead j s) ≡ lead j s
 unfolding ahead

@@ -22,11 +22,12 @@ use Rattle.store.specs.inner.Calls.{askWrite, askTruncate}
 use Rattle.store.proofs.Calls as calls
 use Rattle.layout.specs.Numbers.{sizeMax, nullBlock}
 use Rattle.trials.specs.Loop.{Writing, Written, NoRoom, Corrupt, WriteOut}
-use Rattle.store.specs.inner.Store.{puts, shrunk, shrinks}
+use Rattle.store.specs.inner.Store.{shrunk, shrinks}
 use Rattle.card.specs.inner.Cards.{cardWith}
 use Rattle.layout.specs.inner.Served.{blockList}
 use Rattle.files.specs.Change.{withList}
 use Rattle.grow.specs.Setting.{testedOf}
+use Rattle.new_list.specs.inner.Put.{puts}
 
 -- the ways of a call: all as it came, or, behind the tests, done with another size and head of one file, -28 or -84
 pub data Ends (w : Lookahead) (t : Table) (image : List ℕ) : StoreOut → Type 0 where

@@ -25,7 +25,7 @@ use Rattle.trials.specs.Trial.{takenBy}
 use Rattle.trials.specs.Loop.{tried, followed, turnOf, writeBy}
 use Rattle.grow.specs.Growth.{links, growth}
 use Rattle.store.specs.declared.Outcome.the-variants as outcome
-use Rattle.store.specs.Write.{ahead, then, tail, trialOf, starts, wanted, looked, firstHead}
+use Rattle.old_list.specs.Write.{ahead, then, tail, trialOf, starts, wanted, looked, firstHead}
 use Rattle.store.specs.Store.{StoreOut, left, putOn, atFile, writeAt, storeWrite}
 
 -- The file is 372 bytes of 7 in blocks 0, 1 and 2, all three full. Pointer 1 of block 2 should name block 0 and names p. Blocks 3, 4 and 5 are given.

@@ -20,15 +20,17 @@ use Rattle.trials.specs.Loop.{Flash, write-out}
 use Rattle.grow.specs.inner.Setting.{setting, state}
 use Rattle.grow.specs.inner.Extend.{windowAlloc}
 use Rattle.grow.proofs.Same.{window-falls}
-use Rattle.store.specs.Write.{zeros, kept, wanted, looked, firstHead}
-use Rattle.store.specs.Store.{lookOn, jobOf, putOn, writtenOf, writeAt, cutDown, truncateAt}
-use Rattle.store.specs.inner.Write.{putOf}
-use Rattle.store.specs.inner.Store.{lookIn, puts, writeFile, shrunk, shrinks, truncateFile}
+use Rattle.old_list.specs.Write.{zeros, kept, wanted, looked, firstHead, jobOf}
+use Rattle.store.specs.Store.{lookOn, putOn, writtenOf, writeAt, cutDown, truncateAt}
+use Rattle.new_list.specs.inner.Write.{putOf}
+use Rattle.store.specs.inner.Store.{writeFile, shrunk, shrinks, truncateFile}
 use Rattle.store.specs.inner.Calls.{askWrite, askTruncate, Asked}
 use Rattle.store.proofs.Files.{shrinks-some}
 use Rattle.store.proofs.Equal.{write-same}
 use Rattle.card.specs.inner.Cards.{cardWith}
 use Rattle.layout.specs.inner.Served.{blockList}
+use Rattle.old_list.specs.inner.Lookups.{lookIn}
+use Rattle.new_list.specs.inner.Put.{puts}
 
 module _ (B N l : ℕ) (image health : List ℕ) (w : Lookahead) (t : Table) (i : ℕ) (a : Asked B N l image health w t i) where
   pub put-same : (p : ℕ) (src : List ℕ) → p + length src ≤ sizeMax → 0 < p + length src

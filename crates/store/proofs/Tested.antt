@@ -17,7 +17,7 @@ use Rattle.files.proofs.Cases.{found-at}
 use Rattle.window.specs.declared.Lookahead.{Lookahead}
 use Rattle.window.specs.Value.{lookaheadFits, validOf}
 use Rattle.alloc.proofs.Tested.{ready}
-use Rattle.store.specs.inner.Put.{Putting}
+use Rattle.new_list.specs.inner.Put.{Putting}
 use Rattle.store.specs.inner.Calls.{Shrinking, Asked}
 use Rattle.layout.specs.Numbers.{filesMax, sizeMax}
 use Rattle.layout.specs.inner.Served.{geometry}

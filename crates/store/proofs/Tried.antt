@@ -20,13 +20,14 @@ use Rattle.grow.specs.Extend.{GrowOut, grow-out}
 use Rattle.grow.specs.inner.Grow.{part, linkOf}
 use Rattle.grow.proofs.Pointed.{given}
 use Rattle.grow.proofs.Growths.{offset-le, link-nested, growth-length, growth-first, growth-ends}
-use Rattle.store.specs.Write.{Job, Look, Found, Lost, over, new, lead, ahead, width, tail, trialOf, planOf}
-use Rattle.store.specs.inner.Write.{fronted, filledOf, grownOf, writeOf}
+use Rattle.old_list.specs.Write.{Job, Look, Found, Lost, over, new, lead, ahead, width, tail, trialOf, planOf}
+use Rattle.new_list.specs.inner.Write.{filledOf, grownOf, writeOf}
 use Rattle.store.proofs.Parts.{length-ahead, trial-whole, trial-stops, tail-none, tail-lost, tail-found}
 use Rattle.store.proofs.Fronts.{front-nested, tail-nested, front-length, first-offset, first-width}
 use Rattle.layout.specs.inner.Served.{BlockSized}
 use Rattle.card.specs.inner.Cards.{CardFacts}
 use Rattle.device.specs.inner.Bounds.{spot}
+use Rattle.new_block.specs.inner.Fill.{fronted}
 
 module _ {W : Type 0} (look : List ℕ → ℕ → Look) (tries : W → ℕ) (c : Flash W) (j : Job) (fits : new j < 2 ^ 32) where
   -- the nested write, and the loop

@@ -1,5 +1,4 @@
 -- The definitions that the contracts of `store` cite.
 pub mod Asked
-pub mod Write
 pub mod Store
 pub mod inner

@@ -7,8 +7,6 @@ use lib.IntN as int
 use lib.ListN.{length}
 use Rattle.layout.specs.Numbers.{sizeMax, nullBlock, accepted, damaged-card, invalid, no-file, no-space, too-large}
 use Rattle.layout.specs.Layout.{BlockList}
-use Rattle.ctz.specs.declared.Found.{Found}
-use Rattle.ctz.specs.declared.Found.the-variants as found
 use Rattle.ctz.specs.Lookup.{walkTo}
 use Rattle.files.specs.declared.Entry.{Entry}
 use Rattle.files.specs.declared.Table.{Table}
@@ -24,22 +22,14 @@ use Rattle.store.specs.declared.Outcome.{Outcome}
 use Rattle.store.specs.declared.Outcome.the-variants as outcome
 use Rattle.store.specs.declared.Stored.{Stored}
 use Rattle.store.specs.Asked.{WriteAsked, TruncateAsked}
-use Rattle.store.specs.Write.{zeros, Job, kept, Look, planOf, wanted, looked, firstHead}
+use Rattle.old_list.specs.Write.{zeros, Job, jobOf, kept, Look, lookOf, planOf, wanted, looked, firstHead}
 
--- a lookup in a list, as a write asks for it
-abbrev pub lookOf : Found → Look
-lookOf (found.At k off hops) = Look.Found k
-lookOf found.Damaged = Look.Lost
-lookOf found.Refused = Look.Lost
-
+-- lookups in a list, on the image as it stands
 abbrev pub lookOn : Setting → BlockList → List ℕ → ℕ → Look
 lookOn c l image p = lookOf (walkTo (record { B = c .B; N = c .N; image = image }) l p)
 
 abbrev pub oldList : Job → BlockList
 oldList j = record { head = j .head; size = j .old }
-
-abbrev pub jobOf : Entry → ℕ → List ℕ → Job
-jobOf e p src = record { head = e .head; old = e .size; pos = p; src = src }
 
 -- A write of at least one byte: the checkpoint, the lookups, then block after block; the scans visit the table as it came.
 unfoldable pub putOn : Setting → State → Job → WriteOut Lookahead

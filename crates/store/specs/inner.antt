@@ -1,8 +1,4 @@
--- A write as the inner functions of `store` go about it: growths, each new block filled before the next one.
-pub mod Write
+-- A write or truncate as the inner functions of `store` go about it.
 pub mod Store
-pub mod Lookups
-pub mod Fill
-pub mod Put
 pub mod Calls
 pub mod Gives

@@ -1,12 +1,12 @@
 // A write or truncate of one file, behind the tests of card, window and table.
 use super::Outcome;
 use super::Stored;
-use super::growths::put;
 use super::steps::finish;
 use super::steps::left;
 use super::steps::shrink;
 use files::Table;
 use layout::Geometry;
+use new_list::put;
 use window::Lookahead;
 ghost use Rattle.store.specs.inner.Calls.{Asked};
 ghost use Rattle.store.specs.inner.Store.{writeFile, truncateFile};

@@ -1,9 +1,5 @@
 // The store: write and truncate.
-mod block;
 mod file;
-mod growths;
-mod numbers;
-mod old;
 mod steps;
 
 use file::truncate_file;

@@ -1,16 +1,15 @@
 // What write and truncate do around the growths: the tests first, the table last, and a file cut down.
 use super::Outcome;
 use super::Stored;
-use super::growths::Writing;
-use super::growths::Wrote;
 use files::Table;
 use layout::Geometry;
+use new_list::Writing;
+use new_list::Wrote;
 use window::Lookahead;
 ghost use mathlib.Core.Path.{_≡_};
 ghost use Prim.Native.Nat.{_<_};
 ghost use lib.ListN.{length};
-ghost use Rattle.store.specs.inner.Put.{finishOf};
-ghost use Rattle.store.specs.inner.Calls.{Shrinking};
+ghost use Rattle.store.specs.inner.Calls.{Shrinking, finishOf};
 ghost use Rattle.layout.specs.Numbers.{filesMax};
 ghost use Rattle.store.specs.Store.{storedOf};
 ghost use Rattle.store.specs.inner.Store.{stays, shrinks};

@@ -7,13 +7,13 @@ use native.Mathlib.Omega.{arith}
 use lib.ListN.{length}
 use Rattle.layout.specs.Layout.{start, indexAt}
 use Rattle.ctz.specs.Lists.{SoundList, blockAt}
-use Rattle.store.specs.Write.{Job, new, Look, Found}
+use Rattle.old_list.specs.Write.{Job, new, Look, Found}
 use Rattle.writes.proofs.Holds.{used}
 use Rattle.writes.proofs.Stands.{others-stand}
 use Rattle.writes.proofs.Writes.{Outcome, write-plain}
 use Rattle.writes.proofs.Allocators.{In, Stays, Allotted, Allocator, MustStand}
 use Rattle.trials.specs.Loop.{Took, Block, None, Bad}
-use Rattle.store.specs.inner.Write.{putOf}
+use Rattle.new_list.specs.inner.Write.{putOf}
 use Rattle.card.specs.inner.Cards.{CardFacts, cardWith}
 use Rattle.layout.specs.inner.Served.{blockList}
 

@@ -10,7 +10,7 @@ use lib.ListN.{length}
 use Rattle.layout.specs.Layout.{start, indexAt}
 use Rattle.layout.proofs.Laws.{start-mono}
 use Rattle.layout.proofs.Places.{index-mono}
-use Rattle.store.specs.Write.{Job, new, kept, over, Look, Found, starts, when, wanted, looked}
+use Rattle.old_list.specs.Write.{Job, new, kept, over, Look, Found, starts, when, wanted, looked}
 use Rattle.writes.proofs.Index.{in-block, start-lt}
 use Rattle.layout.specs.inner.Served.{BlockSized}
 use Rattle.layout.proofs.InBlock.{InBlock}

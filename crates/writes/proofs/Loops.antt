@@ -11,7 +11,7 @@ use lib.ListN.{length}
 use Rattle.layout.specs.Layout.{indexAt, offsetAt}
 use Rattle.device.specs.Device.{refusesProgram}
 use Rattle.grow.specs.declared.Growth.the-variants.{Full}
-use Rattle.store.specs.Write.{Job, new, Look}
+use Rattle.old_list.specs.Write.{Job, new, Look}
 use Rattle.writes.proofs.Grows.{Growing, Got, growing}
 use Rattle.writes.proofs.Fills.{filling}
 use Rattle.writes.proofs.Widths.{share}
@@ -22,7 +22,7 @@ use Rattle.writes.proofs.Allocators.{Stays, Allocator}
 use Rattle.trials.specs.Loop.{Took, Written, NoRoom, WriteOut}
 use Rattle.grow.specs.Extend.{GrowOut}
 use Rattle.grow.specs.inner.Grow.{growOf}
-use Rattle.store.specs.inner.Write.{grownOf, writeOf}
+use Rattle.new_list.specs.inner.Write.{grownOf, writeOf}
 use Rattle.card.specs.inner.Cards.{CardFacts}
 
 module _ {W : Type 0} (look : List ℕ → ℕ → Look) (B N : ℕ) (health : List ℕ) (tries : W → ℕ) (alloc : W → List ℕ → Took W)

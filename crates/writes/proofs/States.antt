@@ -5,7 +5,7 @@ use mathlib.Core.List.{List}
 use Prim.Native.Nat.{ℕ, _-_, _^_, _≤_, _<_}
 use lib.ListN.{length}
 use Rattle.layout.specs.Layout.{start, indexAt}
-use Rattle.store.specs.Write.{Job, new, kept, Look, Found}
+use Rattle.old_list.specs.Write.{Job, new, kept, Look, Found}
 use Rattle.writes.proofs.Plain.{overAt}
 use Rattle.writes.proofs.Holds.{moves, byte-moves, Holds}
 use Rattle.writes.proofs.Grows.{Growing}

@@ -8,7 +8,7 @@ use borrow.Author.Tests.{lt-ltb, le-ltb}
 use lib.Dec.{ltb}
 use Rattle.layout.specs.Layout.{pointers, start, indexAt, offsetAt}
 use Rattle.layout.proofs.Places.{start-suc}
-use Rattle.store.specs.Write.{Job, new}
+use Rattle.old_list.specs.Write.{Job, new}
 use Rattle.writes.proofs.Index.{in-block, roomy, index-is, index-le, offset-is, start-index}
 use Rattle.writes.proofs.Holds.{either}
 use Rattle.layout.specs.inner.Served.{BlockSized}

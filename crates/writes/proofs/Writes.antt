@@ -8,7 +8,7 @@ use native.Mathlib.Omega.{arith}
 use lib.ListN.{length, getD}
 use Rattle.layout.specs.Layout.{start, indexAt}
 use Rattle.ctz.specs.Lists.{SoundList, blockAt}
-use Rattle.store.specs.Write.{Job, new, kept, over, Look, Found, firstHead, foundOr, looked, wanted}
+use Rattle.old_list.specs.Write.{Job, new, kept, over, Look, Found, firstHead, foundOr, looked, wanted}
 use Rattle.writes.proofs.Index.{in-block, start-lt}
 use Rattle.writes.proofs.Holds.{shrinks, at-is, sound-bytes, bytes-length, bytes-at, Holds}
 use Rattle.writes.proofs.Lists.{list-holds, holds-list}
@@ -19,7 +19,7 @@ use Rattle.writes.proofs.Loops.{Ended, done, short, writing}
 use Rattle.writes.proofs.Cells.{bytesBy}
 use Rattle.writes.proofs.Allocators.{In, Stays, Allocator, MustStand}
 use Rattle.trials.specs.Loop.{Took, Written, NoRoom, WriteOut}
-use Rattle.store.specs.inner.Write.{writeOf, putOf}
+use Rattle.new_list.specs.inner.Write.{writeOf, putOf}
 use Rattle.layout.specs.inner.Served.{BlockSized, blockList}
 use Rattle.card.specs.inner.Cards.{CardFacts, cardWith}
 

@@ -1,11 +1,16 @@
 -- What the parts of the entry points ask.
-use mathlib.Core.List.{List}
+use mathlib.Core.List.{List, []}
 use Prim.Native.Nat.{ℕ, _≤_, _<_}
 use lib.ListN.{length}
 use Rattle.files.specs.declared.Table.{Table}
 use Rattle.files.specs.Table.{file}
 use Rattle.window.specs.declared.Lookahead.{Lookahead}
+use Rattle.trials.specs.Loop.{Writing, Written, NoRoom, Corrupt}
+use Rattle.new_list.specs.declared.Writing as declared
+use Rattle.new_list.specs.declared.Writing.the-variants as writing
+use Rattle.store.specs.declared.Stored.{Stored}
 use Rattle.store.specs.Asked.{WriteAsked, TruncateAsked}
+use Rattle.store.specs.Store.{written, storedOf}
 use Rattle.layout.specs.Numbers.{filesMax, sizeMax}
 use Rattle.card.specs.inner.Cards.{CardFacts}
 use Rattle.alloc.specs.inner.Facts.{Ready}
@@ -30,3 +35,13 @@ pub record Asked (B N l : ℕ) (image health : List ℕ) (w : Lookahead) (t : Ta
   pub known : N ≤ length health
   pub slot : i < filesMax
   pub most : file t i .size ≤ sizeMax
+
+-- a definition's answer for the code's
+abbrev pub writingOf : declared.Writing → Writing
+writingOf (writing.Written h s) = Written h s
+writingOf writing.NoRoom = NoRoom
+writingOf writing.Corrupt = Corrupt
+
+-- the table changes last; the image is not looked at
+abbrev pub finishOf : Table → ℕ → declared.Writing → Lookahead → Stored
+finishOf t i a w = storedOf (written t i (writingOf a) w [])

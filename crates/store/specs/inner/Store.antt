@@ -8,30 +8,18 @@ use Rattle.layout.specs.Numbers.{sizeMax, nullBlock}
 use Rattle.ctz.specs.declared.Found.{Found}
 use Rattle.ctz.specs.declared.Found.the-variants as found
 use Rattle.ctz.specs.Lookup.{walkTo}
-use Rattle.files.specs.declared.Entry.{Entry}
 use Rattle.files.specs.declared.Table.{Table}
 use Rattle.files.specs.Table.{file}
 use Rattle.files.specs.Change as change
 use Rattle.window.specs.declared.Lookahead.{Lookahead}
-use Rattle.window.specs.Value.{checkpointOf}
-use Rattle.trials.specs.Loop.{WriteOut}
-use Rattle.grow.specs.inner.Extend.{windowAlloc}
 use Rattle.store.specs.declared.Outcome.{Outcome}
 use Rattle.store.specs.declared.Outcome.the-variants as outcome
 use Rattle.store.specs.declared.Stored.{Stored}
-use Rattle.store.specs.Write.{zeros, Look}
-use Rattle.store.specs.Store.{lookOf, jobOf, StoreOut, left, writtenOf}
-use Rattle.store.specs.inner.Write.{putOf}
+use Rattle.old_list.specs.Write.{zeros}
+use Rattle.store.specs.Store.{StoreOut, left, writtenOf}
+use Rattle.new_list.specs.inner.Put.{puts}
 use Rattle.card.specs.inner.Cards.{cardWith}
 use Rattle.layout.specs.inner.Served.{blockList}
-
-abbrev pub lookIn : ℕ → ℕ → Entry → List ℕ → ℕ → Look
-lookIn B N e image p = lookOf (walkTo (cardWith B N image) (blockList (e .head) (e .size)) p)
-
--- a write of at least one byte to a file of the table: the checkpoint, the lookups, then by growths; the scans visit the table as it came
-unfoldable pub puts : ℕ → ℕ → ℕ → List ℕ → Table → Entry → ℕ → List ℕ → Lookahead → List ℕ → WriteOut Lookahead
-puts B N l health t e p src w image =
-    putOf (lookIn B N e) (λ (v : Lookahead). v .ckpoint) (windowAlloc B N l t) health B N (jobOf e p src) (checkpointOf N w) image
 
 abbrev pub stays : Outcome → Lookahead → Table → Stored
 stays a w t = record { answer = a; window = w; table = t }

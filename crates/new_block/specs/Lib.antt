@@ -1,0 +1,2 @@
+-- The definitions that the contracts of `new_block` cite.
+pub mod inner

@@ -1,0 +1,2 @@
+-- The filling of one new block.
+pub mod Fill

@@ -1,0 +1,4 @@
+-- The laws of the lookups of a write.
+pub mod Index
+pub mod Looks
+pub mod Heads

@@ -1,0 +1,3 @@
+-- The definitions that the contracts of `old_list` cite.
+pub mod Write
+pub mod inner

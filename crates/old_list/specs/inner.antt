@@ -1,0 +1,2 @@
+-- The lookups of a write as its inner functions go about them.
+pub mod Lookups
