@@ -13,18 +13,18 @@ use Rattle.layout.proofs.Places.{offset-inside, offset-past, next-place, Same, 
 use Rattle.layout.proofs.Served.{served, index-in}
 use Rattle.device.specs.Device.{stored}
 use Rattle.trials.specs.Trial.{Trial, Whole, Fault, ends, whole}
-use Rattle.trials.specs.Loop.{Place}
 use Rattle.trials.proofs.Laws.{tryAt}
 use Rattle.grow.specs.Growth.{index, offset, Link, links, growth}
 use Rattle.grow.specs.inner.Grow.{part, linkOf}
 use Rattle.grow.proofs.Pointed.{part-block, part-length, given, links-nested, links-length, links-lost, links-some, links-ends, pointers-some}
 use Rattle.layout.specs.inner.Served.{BlockSized}
 use Rattle.card.specs.inner.Cards.{CardFacts}
+use Rattle.trials.specs.Loop.{Candidate}
 
 -- ---- the growth
 
 -- it is whole, or ends in a fault
-pub growth-ends : (q : Place) (img : List ℕ) → (growth q img .ending ≡ Whole) ⊎ (growth q img .ending ≡ Fault)
+pub growth-ends : (q : Candidate) (img : List ℕ) → (growth q img .ending ≡ Whole) ⊎ (growth q img .ending ≡ Fault)
 unfolding growth
 growth-ends q img = by (eqb (offset q) (4 * pointers (index q))) refl (ltb (q .head) (q .N)) refl
   where

@@ -14,7 +14,6 @@ use Rattle.card.proofs.Cards.{block-inside}
 use Rattle.device.specs.Device.{stored}
 use Rattle.device.proofs.Frame.{stored-append}
 use Rattle.trials.specs.Trial.{Trial, Ending, Whole, Fault, Refused, ends}
-use Rattle.trials.specs.Loop.{Place}
 use Rattle.grow.specs.declared.Growth.{Growth}
 use Rattle.grow.specs.declared.Growth.the-variants.{Grown, Damaged}
 use Rattle.grow.specs.Growth.{with, Link, linked, following, links}
@@ -22,6 +21,7 @@ use Rattle.grow.specs.Extend.{GrowOut, grow-out}
 use Rattle.grow.specs.inner.Grow.{part, pointersOf}
 use Rattle.card.specs.inner.Cards.{CardFacts}
 use Rattle.card.specs.Card.{blockOf}
+use Rattle.trials.specs.Loop.{Candidate}
 
 -- ---- n bytes of a block from offset o on
 
@@ -46,7 +46,7 @@ grows k off Whole = Grown k off
 grows k off Fault = Damaged
 grows k off Refused = Damaged
 
-abbrev pub given : {W : Type 0} → Place → ℕ → ℕ → Trial → List ℕ → W → GrowOut W
+abbrev pub given : {W : Type 0} → Candidate → ℕ → ℕ → Trial → List ℕ → W → GrowOut W
 given q off o t img w = grow-out (grows (q .k) off (t .ending)) (with q img o (t .bytes)) w
 
 four : (x v : ℕ) → 4 * suc x ≡ 4 * x + length (bytes32 v)
@@ -55,7 +55,7 @@ four x v = omega arith
 
 -- ---- pointers
 
-pub links-nested : {W : Type 0} (q : Place) (off : ℕ) (w : W) (n : ℕ) (l : Link) (img : List ℕ)
+pub links-nested : {W : Type 0} (q : Candidate) (off : ℕ) (w : W) (n : ℕ) (l : Link) (img : List ℕ)
     → pointersOf n (q .B) (q .N) (q .k) off (l .x) (l .names) img w ≡ given q off (4 * l .x) (links q n l img) img w
 unfolding pointersOf links stored
 links-nested q off w zero l img = refl
@@ -75,7 +75,7 @@ links-nested q off w (suc n) l img = by (ltb (l .names) (q .N)) refl (links-nest
         (ap (λ (o : ℕ). with q img′ o (links q n l′ img′ .bytes)) a
         ∙ stored-append (q .B) (q .k) (4 * l .x) (bytes32 (l .names)) (links q n l′ img′ .bytes) img))
 
-pub links-length : (q : Place) (n : ℕ) (l : Link) (img : List ℕ) → links q n l img .ending ≡ Whole → length (links q n l img .bytes) ≡ 4 * n
+pub links-length : (q : Candidate) (n : ℕ) (l : Link) (img : List ℕ) → links q n l img .ending ≡ Whole → length (links q n l img .bytes) ≡ 4 * n
 unfolding links bytes32
 links-length q zero l img h = refl
 links-length q (suc n) l img h = by (ltb (l .names) (q .N)) refl (links-length q n)
@@ -90,17 +90,17 @@ links-length q (suc n) l img h = by (ltb (l .names) (q .N)) refl (links-length q
         let r : links q n (following q l img) (linked q l img) .ending ≡ Whole = rw (links, e) at h in
         rw (links, e) (omega (arith, ih (following q l img) (linked q l img) r))
 
-pub links-lost : (q : Place) (n : ℕ) (l : Link) (img : List ℕ) → 0 < n → ltb (l .names) (q .N) ≡ false → links q n l img ≡ ends Fault
+pub links-lost : (q : Candidate) (n : ℕ) (l : Link) (img : List ℕ) → 0 < n → ltb (l .names) (q .N) ≡ false → links q n l img ≡ ends Fault
 unfolding links
 links-lost q zero l img h e = absurd (omega arith)
 links-lost q (suc n) l img h e = rw (links, e) refl
 
-pub links-some : (q : Place) (n : ℕ) (l : Link) (img : List ℕ) → 0 < n → ltb (l .names) (q .N) ≡ true → 0 < length (links q n l img .bytes)
+pub links-some : (q : Candidate) (n : ℕ) (l : Link) (img : List ℕ) → 0 < n → ltb (l .names) (q .N) ≡ true → 0 < length (links q n l img .bytes)
 unfolding links bytes32
 links-some q zero l img h e = absurd (omega arith)
 links-some q (suc n) l img h e = rw (links, e) (omega arith)
 
-pub links-ends : (q : Place) (n : ℕ) (l : Link) (img : List ℕ) → (links q n l img .ending ≡ Whole) ⊎ (links q n l img .ending ≡ Fault)
+pub links-ends : (q : Candidate) (n : ℕ) (l : Link) (img : List ℕ) → (links q n l img .ending ≡ Whole) ⊎ (links q n l img .ending ≡ Fault)
 unfolding links
 links-ends q zero l img = inl refl
 links-ends q (suc n) l img = by (ltb (l .names) (q .N)) refl (links-ends q n)

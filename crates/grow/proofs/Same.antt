@@ -18,7 +18,7 @@ use Rattle.window.specs.declared.Answer.the-variants as answer
 use Rattle.window.specs.Allocate.{allocOf}
 use Rattle.alloc.specs.Visits.{seenIn}
 use Rattle.trials.specs.Trial.{Trial, Ending, Whole, Fault, Refused, ends, whole, takenBy}
-use Rattle.trials.specs.Loop.{Took, Block, None, Bad, Flash, Place, WriteOut, writeBy}
+use Rattle.trials.specs.Loop.{Took, Block, None, Bad, Flash, WriteOut, writeBy, Candidate}
 use Rattle.trials.proofs.Laws.{at, taken-all, taken-none, taken-empty, done-law, none-law, bad-law, passed-law, whole-law, refused-law, fault-law, tryAt}
 use Rattle.trials.proofs.Falls.{Falls}
 use Rattle.grow.specs.declared.Growth.the-variants.{Refused as refused}
@@ -76,7 +76,7 @@ module _ {W : Type 0} {Ok : W → Type 0} {tries : W → ℕ} (c : Flash W) (fal
   -- block k is erased, and no byte of the growth is refused
   module _ (n m : ℕ) (img : List ℕ) (w w′ : W) (k : ℕ) (card : CardFacts (c .B) (c .N) (length img)) (e : c .alloc w img ≡ Block k w′)
       (f : refusesErase (c .health) k ≡ false) where
-    abbrev q : Place
+    abbrev q : Candidate
     q = tryAt (c .B) (c .N) k h s
 
     abbrev wimg : List ℕ

@@ -9,18 +9,18 @@ use Rattle.span.specs.Words.{bytes32}
 use Rattle.layout.specs.Layout.{pointers, indexAt, offsetAt}
 use Rattle.device.specs.Device.{stored}
 use Rattle.trials.specs.Trial.{Trial, Fault, ends, whole, more}
-use Rattle.trials.specs.Loop.{Place}
 use Rattle.card.specs.Card.{pointer, blockOf}
+use Rattle.trials.specs.Loop.{Candidate}
 
 -- the new block's index, and where in it the next byte of the file goes
-abbrev pub index : Place → ℕ
+abbrev pub index : Candidate → ℕ
 index q = indexAt (q .B) (q .size)
 
-abbrev pub offset : Place → ℕ
+abbrev pub offset : Candidate → ℕ
 offset q = offsetAt (q .B) (q .size)
 
 -- the image with vs in the new block, from offset o on
-abbrev pub with : Place → List ℕ → ℕ → List ℕ → List ℕ
+abbrev pub with : Candidate → List ℕ → ℕ → List ℕ → List ℕ
 with q img o vs = stored (q .B) img (record { block = q .k; offset = o }) vs
 
 -- pointer x of the new block, and the block that it names
@@ -28,15 +28,15 @@ pub record Link : Type 0 where
   pub x : ℕ
   pub names : ℕ
 
-abbrev pub linked : Place → Link → List ℕ → List ℕ
+abbrev pub linked : Candidate → Link → List ℕ → List ℕ
 linked q l img = with q img (4 * l .x) (bytes32 (l .names))
 
 -- the next pointer is read from the block just named
-abbrev pub following : Place → Link → List ℕ → Link
+abbrev pub following : Candidate → Link → List ℕ → Link
 following q l img = record { x = suc (l .x); names = pointer (q .B) (linked q l img) (l .names) (l .x) }
 
 -- n pointers, from that one on; each is tested before it is programmed
-unfoldable pub links : Place → ℕ → Link → List ℕ → Trial
+unfoldable pub links : Candidate → ℕ → Link → List ℕ → Trial
 links q zero l img = whole []
 links q (suc n) l img =
     elim (ltb (l .names) (q .N)) [
@@ -46,7 +46,7 @@ links q (suc n) l img =
 
 -- A block that starts at this size gets its pointers, of which the first names the head: the first block has none. Otherwise the last block is incomplete,
 -- and its bytes are copied. The head is tested before the first program.
-unfoldable pub growth : Place → List ℕ → Trial
+unfoldable pub growth : Candidate → List ℕ → Trial
 growth q img =
     elim (eqb (offset q) (4 * pointers (index q))) [
       | true ↦ links q (pointers (index q)) (record { x = 0; names = q .head }) img

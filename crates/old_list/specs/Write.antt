@@ -10,7 +10,7 @@ use Rattle.ctz.specs.declared.Found as ctz
 use Rattle.ctz.specs.declared.Found.the-variants as found
 use Rattle.files.specs.declared.Entry.{Entry}
 use Rattle.trials.specs.Trial.{Trial, Whole, Fault, Refused, ends, whole, more}
-use Rattle.trials.specs.Loop.{Place, Plan}
+use Rattle.trials.specs.Loop.{Plan, Candidate}
 use Rattle.grow.specs.Growth.{offset, with, growth}
 use Rattle.card.specs.Card.{blockOf}
 
@@ -63,11 +63,11 @@ abbrev pub width : BlockSize → Job → ℕ → ℕ
 width B j s = min (new j - s) (B - offsetAt B s)
 
 -- the bytes of t, and those that follow on the image with them
-unfoldable pub then : Place → List ℕ → Trial → (List ℕ → Trial) → Trial
+unfoldable pub then : Candidate → List ℕ → Trial → (List ℕ → Trial) → Trial
 then q img t go = elim (t .ending) [ Whole ↦ more (t .bytes) (go (with q img 0 (t .bytes))) | Fault ↦ t | Refused ↦ t ]
 
 -- Where bytes of the old file follow the data, they stand in its block of the same index, at the same offsets; that block is looked up only then.
-unfoldable pub tail : (List ℕ → ℕ → Look) → Job → Place → List ℕ → Trial
+unfoldable pub tail : (List ℕ → ℕ → Look) → Job → Candidate → List ℕ → Trial
 tail look j q img =
     let a : ℕ = lead j (q .size) in
     let n : ℕ = width (q .B) j (q .size) in
@@ -80,7 +80,7 @@ tail look j q img =
     ]
 
 -- the growth; gap and data; the tail
-unfoldable pub trialOf : (List ℕ → ℕ → Look) → Job → Place → List ℕ → Trial
+unfoldable pub trialOf : (List ℕ → ℕ → Look) → Job → Candidate → List ℕ → Trial
 trialOf look j q img =
     then q img (then q img (growth q img) (λ i. whole (take (width (q .B) j (q .size)) (ahead j (q .size))))) (λ i. tail look j q i)
 

@@ -8,24 +8,24 @@ use borrow.Author.Tests.{ltb-true}
 use lib.Dec.{ltb}
 use lib.ListN.{length, take, length-append, length-drop, length-replicate}
 use Rattle.trials.specs.Trial.{Trial, Ending, Fault, ends, more, whole}
-use Rattle.trials.specs.Loop.{Place}
 use Rattle.grow.specs.Growth.{offset, with, growth}
 use Rattle.grow.specs.inner.Grow.{part}
 use Rattle.grow.proofs.Pointed.{part-block}
 use Rattle.old_list.specs.Write.{Job, Look, Found, Lost, lead, ahead, then, width, tail, trialOf}
+use Rattle.trials.specs.Loop.{Candidate}
 
 pub length-ahead : (j : Job) (s : ℕ) → length (ahead j s) ≡ lead j s
 unfolding ahead
 length-ahead j s = simp (length-append, length-replicate, length-drop) (omega arith)
 
 -- what ended in a fault stays so
-then-stops : (q : Place) (img : List ℕ) (t : Trial) (go : List ℕ → Trial) → t .ending ≡ Fault → then q img t go ≡ t
+then-stops : (q : Candidate) (img : List ℕ) (t : Trial) (go : List ℕ → Trial) → t .ending ≡ Fault → then q img t go ≡ t
 unfolding then
 then-stops q img t go e =
     let r : t ≡ record { bytes = t .bytes; ending = Fault } = ap (λ (y : Ending). record { bytes = t .bytes; ending = y }) e in
     ap (λ (u : Trial). then q img u go) r ∙ sym r
 
-module _ (look : List ℕ → ℕ → Look) (j : Job) (q : Place) (img : List ℕ) where
+module _ (look : List ℕ → ℕ → Look) (j : Job) (q : Candidate) (img : List ℕ) where
   -- how many positions go into the block, and gap and data among them
   abbrev pub wide : ℕ
   wide = width (q .B) j (q .size)

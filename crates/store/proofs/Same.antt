@@ -24,7 +24,7 @@ use Rattle.old_list.specs.Write.{zeros, kept, wanted, looked, firstHead, jobOf}
 use Rattle.store.specs.Store.{lookOn, putOn, writtenOf, writeAt, cutDown, truncateAt}
 use Rattle.new_list.specs.inner.Write.{putOf}
 use Rattle.store.specs.inner.Store.{writeFile, shrunk, shrinks, truncateFile}
-use Rattle.store.specs.inner.Calls.{askWrite, askTruncate, Asked}
+use Rattle.store.specs.inner.Calls.{askWrite, askTruncate, CallAsked}
 use Rattle.store.proofs.Files.{shrinks-some}
 use Rattle.store.proofs.Equal.{write-same}
 use Rattle.card.specs.inner.Cards.{cardWith}
@@ -32,7 +32,7 @@ use Rattle.layout.specs.inner.Served.{blockList}
 use Rattle.old_list.specs.inner.Lookups.{lookIn}
 use Rattle.new_list.specs.inner.Put.{puts}
 
-module _ (B N l : ℕ) (image health : List ℕ) (w : Lookahead) (t : Table) (i : ℕ) (a : Asked B N l image health w t i) where
+module _ (B N l : ℕ) (image health : List ℕ) (w : Lookahead) (t : Table) (i : ℕ) (a : CallAsked B N l image health w t i) where
   pub put-same : (p : ℕ) (src : List ℕ) → p + length src ≤ sizeMax → 0 < p + length src
       → putOn (setting B N l health) (state w t image) (jobOf (file t i) p src) ≡ puts B N l health t (file t i) p src w image
   unfolding putOn puts putOf windowAlloc

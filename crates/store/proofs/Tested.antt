@@ -18,7 +18,7 @@ use Rattle.window.specs.declared.Lookahead.{Lookahead}
 use Rattle.window.specs.Value.{lookaheadFits, validOf}
 use Rattle.alloc.proofs.Tested.{ready}
 use Rattle.new_list.specs.inner.Put.{Putting}
-use Rattle.store.specs.inner.Calls.{Shrinking, Asked}
+use Rattle.store.specs.inner.Calls.{Shrinking, CallAsked}
 use Rattle.layout.specs.Numbers.{filesMax, sizeMax}
 use Rattle.layout.specs.inner.Served.{geometry}
 use Rattle.window.specs.inner.Facts.{scope}
@@ -68,7 +68,7 @@ module _ (B N l : ℕ) (image health : List ℕ) (w : Lookahead) (t : Table) (nu
   file-most = table-valid t (found-at t number i f .ok) .size-le i (found-at t number i f .below)
 
   -- what a call asks of the file at place i
-  pub asked : Asked B N l image health w t i
+  pub asked : CallAsked B N l image health w t i
   asked =
       let a = tests B N l image health w e in
       record {
@@ -78,7 +78,7 @@ module _ (B N l : ℕ) (image health : List ℕ) (w : Lookahead) (t : Table) (nu
         most = file-most;
       }
 
-module _ {B N l : ℕ} {image health : List ℕ} {w : Lookahead} {t : Table} {i : ℕ} (a : Asked B N l image health w t i) where
+module _ {B N l : ℕ} {image health : List ℕ} {w : Lookahead} {t : Table} {i : ℕ} (a : CallAsked B N l image health w t i) where
   pub putting : (pos : ℕ) (src : List ℕ) → pos + length src ≤ sizeMax → Putting B N l image health t w (file t i) pos src
   putting pos src h = record { ready = a .ready; known = a .known; most = a .most; fits = h }
 

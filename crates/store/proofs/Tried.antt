@@ -12,7 +12,7 @@ use Rattle.layout.specs.Layout.{offsetAt}
 use Rattle.device.specs.Device.{stored, wiped, refusesErase, refusesProgram}
 use Rattle.device.proofs.Frame.{stored-length, wiped-length}
 use Rattle.trials.specs.Trial.{Trial, Ending, Whole, Fault, ends, more, whole, takenBy}
-use Rattle.trials.specs.Loop.{Block, Flash, Place, Plan, Corrupt, WriteOut, write-out, writeBy}
+use Rattle.trials.specs.Loop.{Block, Flash, Plan, Corrupt, WriteOut, write-out, writeBy, Candidate}
 use Rattle.trials.proofs.Laws.{at, taken-all, taken-none, taken-empty, whole-law, refused-law, fault-law, tryAt}
 use Rattle.grow.specs.declared.Growth.the-variants.{Grown}
 use Rattle.grow.specs.Growth.{offset, growth}
@@ -72,7 +72,7 @@ module _ {W : Type 0} (look : List ℕ → ℕ → Look) (tries : W → ℕ) (c 
 
   module _ (m m′ h s : ℕ) (img : List ℕ) (w w′ : W) (k : ℕ) (card : CardFacts (c .B) (c .N) (length img)) (lt : ltb s (new j) ≡ true)
       (e : c .alloc w img ≡ Block k w′) (f : refusesErase (c .health) k ≡ false) where
-    abbrev pub q : Place
+    abbrev pub q : Candidate
     q = tryAt (c .B) (c .N) k h s
 
     abbrev pub wimg : List ℕ

@@ -8,9 +8,9 @@ use files::Table;
 use layout::Geometry;
 use new_list::put;
 use window::Lookahead;
-ghost use Rattle.store.specs.inner.Calls.{Asked};
 ghost use Rattle.store.specs.inner.Store.{writeFile, truncateFile};
 ghost use Rattle.store.specs.inner.Gives.{StoreGives};
+ghost use Rattle.store.specs.inner.Calls.{CallAsked};
 
 // `data` written to the file at place `i` from position `pos` on; no bytes change nothing.
 pub fn write_file(
@@ -25,7 +25,7 @@ pub fn write_file(
     pos: u32,
     data: &[u8],
 ) -> Stored
-    requires { ⌜ Asked b n l (now image) (now health) w t i ⌝ }
+    requires { ⌜ CallAsked b n l (now image) (now health) w t i ⌝ }
     ensures { λ r. ⌜ StoreGives
         (writeFile b n l (now (image .entry)) (now (health .entry)) w t i pos (now («data» .entry)))
         r (now (image .exit)) ⌝ }
@@ -56,7 +56,7 @@ pub fn truncate_file(
     i: u32,
     size: u32,
 ) -> Stored
-    requires { ⌜ Asked b n l (now image) (now health) w t i ⌝ }
+    requires { ⌜ CallAsked b n l (now image) (now health) w t i ⌝ }
     ensures { λ r. ⌜ StoreGives
         (truncateFile b n l (now (image .entry)) (now (health .entry)) w t i size)
         r (now (image .exit)) ⌝ }

@@ -6,7 +6,7 @@ use lib.ListN.{replicate}
 use Rattle.device.specs.Device.{stored, wiped}
 use Rattle.trials.specs.Steps.{done, series, programs}
 use Rattle.trials.specs.Trial.{Fault, Trial, whole, takenBy}
-use Rattle.trials.specs.Loop.{Took, Block, None, Place, WriteOut, write-out, Written, NoRoom, Corrupt, tried, followed, turnOf, writeBy}
+use Rattle.trials.specs.Loop.{Took, Block, None, WriteOut, write-out, Written, NoRoom, Corrupt, tried, followed, turnOf, writeBy, Candidate}
 
 handOut : List ℕ → List ℕ → Took (List ℕ)
 handOut [] img = None []
@@ -15,7 +15,7 @@ handOut (k ∷ ks) img = Block k ks
 -- a plan that puts these bytes into each block, until that size
 runs : Trial → ℕ → WriteOut (List ℕ)
 runs t size =
-    writeBy (record { B = 4; N = 3; health = 0 ∷ 2 ∷ 1 ∷ []; alloc = handOut }) (record { until = size; trial = λ (q : Place) (img : List ℕ). t; reach = λ s. s + 4 })
+    writeBy (record { B = 4; N = 3; health = 0 ∷ 2 ∷ 1 ∷ []; alloc = handOut }) (record { until = size; trial = λ (q : Candidate) (img : List ℕ). t; reach = λ s. s + 4 })
     4 (record { head = 9; size = 0; image = replicate 12 9; rest = 2 ∷ 1 ∷ 0 ∷ [] })
 
 -- Done in block 0, with block 1 erased. Two blocks: -28. A fault behind one byte: -84, with that byte stored. No bytes: block 1 will do.

@@ -9,7 +9,7 @@ use lib.ListN.{length}
 use Rattle.device.specs.Device.{stored, wiped, refusesErase, refusesProgram}
 use Rattle.trials.specs.Steps.{Erase, series, programs}
 use Rattle.trials.specs.Trial.{Trial, Ending, Whole, Fault, Refused, ends, takenBy}
-use Rattle.trials.specs.Loop.{Block, None, Bad, Flash, Place, Plan, Standing, Turn, Next, Longer, Again, Ends, write-out, Written, NoRoom, Corrupt, followed, tried, turnOf, writeBy}
+use Rattle.trials.specs.Loop.{Block, None, Bad, Flash, Plan, Standing, Turn, Next, Longer, Again, Ends, write-out, Written, NoRoom, Corrupt, followed, tried, turnOf, writeBy, Candidate}
 use Rattle.trials.proofs.Series.{series-tried}
 use Rattle.device.specs.inner.Bounds.{spot}
 
@@ -17,7 +17,7 @@ abbrev pub at : {W : Type 0} → ℕ → ℕ → List ℕ → W → Standing W
 at h s img w = record { head = h; size = s; image = img; rest = w }
 
 -- block k, tried behind the list (h, s)
-abbrev pub tryAt : ℕ → ℕ → ℕ → ℕ → ℕ → Place
+abbrev pub tryAt : ℕ → ℕ → ℕ → ℕ → ℕ → Candidate
 tryAt B N k h s = record { B = B; N = N; k = k; head = h; size = s }
 
 -- a block that refuses no program takes all; one that refuses takes nothing, and a list without bytes ends as it does

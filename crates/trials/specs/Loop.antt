@@ -4,7 +4,7 @@ use mathlib.Core.List.{List, [], _∷_}
 use Prim.Native.Nat.{ℕ, zero, suc}
 use lib.Dec.{ltb}
 use Rattle.device.specs.Device.{wiped, refusesErase, refusesProgram}
-use Rattle.trials.specs.Steps.{Step, Erase, series, programs}
+use Rattle.trials.specs.Steps.{Erase, series, programs, DeviceStep}
 use Rattle.trials.specs.Trial.{Trial, Whole, Fault, Refused, takenBy}
 
 -- what an allocator answers, whatever its state W is: a block and what is left; -28; -84
@@ -21,7 +21,7 @@ pub record Flash (W : Type 0) : Type 0 where
   pub alloc : W → List ℕ → Took W
 
 -- block k of the card, tried as the next block of the list (head, size)
-pub record Place : Type 0 where
+pub record Candidate : Type 0 where
   pub B : ℕ
   pub N : ℕ
   pub k : ℕ
@@ -31,7 +31,7 @@ pub record Place : Type 0 where
 -- What is written: up to which size; the bytes of a block, on the image where it has just been erased; and the size behind a block that took them all.
 pub record Plan : Type 0 where
   pub until : ℕ
-  pub trial : Place → List ℕ → Trial
+  pub trial : Candidate → List ℕ → Trial
   pub reach : ℕ → ℕ
 
 -- where a write stands between two blocks: the list so far, the image, and the allocator
@@ -64,7 +64,7 @@ pub data Next : Type 0 where
 
 -- one turn: its steps, the allocator behind it, and how the write goes on
 pub record Turn (W : Type 0) : Type 0 where
-  pub steps : List Step
+  pub steps : List DeviceStep
   pub rest : W
   pub next : Next
 

@@ -30,7 +30,7 @@ pub record Shrinking (B N len : ℕ) (t : Table) (i size : ℕ) : Type 0 where
   pub below : size < file t i .size
 
 -- what a call asks of the file at place i: what the tests before it tell
-pub record Asked (B N l : ℕ) (image health : List ℕ) (w : Lookahead) (t : Table) (i : ℕ) : Type 0 where
+pub record CallAsked (B N l : ℕ) (image health : List ℕ) (w : Lookahead) (t : Table) (i : ℕ) : Type 0 where
   pub ready : Ready B N l (length image) t w
   pub known : N ≤ length health
   pub slot : i < filesMax
