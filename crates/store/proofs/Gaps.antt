@@ -8,7 +8,7 @@ use native.Mathlib.Omega.{arith}
 use borrow.Author.Tests.{le-ltb, ltb-true}
 use lib.Dec.{ltb}
 use lib.ListN.{take, drop, length-replicate}
-use Rattle.device.specs.Device.{stored, refusesProgram}
+use Rattle.device.specs.Device.{stored}
 use Rattle.grow.specs.declared.Growth.{Growth}
 use Rattle.grow.specs.declared.Growth.the-variants as growth
 use Rattle.store.specs.Write.{Job, Look, zeros, new, kept, over, wanted, looked, firstHead}
@@ -16,6 +16,7 @@ use Rattle.trials.specs.Loop.{Took, WriteOut}
 use Rattle.grow.specs.Extend.{GrowOut}
 use Rattle.grow.specs.inner.Grow.{growOf}
 use Rattle.store.specs.inner.Write.{fronted, filledOf, grownOf, writeOf, putOf}
+use Rattle.health.specs.Health.{refusesProgram}
 
 -- n zeros at the old size
 abbrev pub zeroing : ℕ → ℕ → ℕ → Job

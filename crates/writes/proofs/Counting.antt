@@ -9,7 +9,6 @@ use borrow.Author.Tests.{ltb-true, ltb-false, lt-ltb, le-ltb}
 use lib.Dec.{ltb}
 use lib.ListN.{length}
 use Rattle.layout.specs.Layout.{indexAt, offsetAt}
-use Rattle.device.specs.Device.{refusesProgram}
 use Rattle.store.specs.Write.{Job, new, kept, over, looked, wanted, firstHead, Look, Found, Lost}
 use Rattle.writes.proofs.Fills.{front-card, front-others}
 use Rattle.writes.proofs.Widths.{share, room, needs, need}
@@ -20,6 +19,7 @@ use Rattle.grow.specs.Extend.{GrowOut}
 use Rattle.grow.specs.inner.Grow.{part, growOf}
 use Rattle.store.specs.inner.Write.{fronted, tailed, filledOf, grownOf, writeOf, putOf}
 use Rattle.card.specs.inner.Cards.{CardFacts}
+use Rattle.health.specs.Health.{refusesProgram}
 
 no-need : (B : ℕ) (j : Job) (s : ℕ) → new j ≤ s → need B j s ≡ 0
 unfolding need

@@ -6,7 +6,6 @@ use Prim.Native.Nat.{ℕ, _+_, _-_, min, _≤_, _<_}
 use lib.Dec.{ltb}
 use lib.ListN.{length}
 use Rattle.device.specs.declared.Programmed.the-variants.{Stored, Refused}
-use Rattle.device.specs.Device.{refusesProgram}
 use Rattle.files.specs.declared.Entry.{Entry}
 use Rattle.store.specs.declared.block.Filled.{Filled}
 use Rattle.store.specs.declared.block.Filled.the-variants.{Done, Spoiled, Damaged}
@@ -17,6 +16,7 @@ use Rattle.store.specs.inner.Write.{fronted, tailed}
 use Rattle.card.specs.inner.Cards.{CardFacts}
 use Rattle.device.specs.inner.Steps.{ProgramOut}
 use Rattle.device.specs.inner.Bounds.{Blank}
+use Rattle.health.specs.Health.{refusesProgram}
 
 -- gap and data go into block k, or it refuses
 unfoldable pub frontOf : List ℕ → ℕ → ℕ → ℕ → ℕ → ℕ → ℕ → List ℕ → List ℕ → ProgramOut

@@ -4,13 +4,14 @@ use mathlib.Core.List.{List}
 use Prim.Native.Nat.{ℕ, zero, suc, _+_, _-_, min}
 use lib.Dec.{ltb}
 use lib.ListN.{take, drop}
-use Rattle.device.specs.Device.{stored, refusesProgram}
+use Rattle.device.specs.Device.{stored}
 use Rattle.trials.specs.Loop.{Took, Written, NoRoom, Corrupt, WriteOut, write-out}
 use Rattle.grow.specs.declared.Growth.the-variants as growth
 use Rattle.grow.specs.Extend.{GrowOut}
 use Rattle.grow.specs.inner.Grow.{part, growOf}
 use Rattle.store.specs.Write.{zeros, Job, over, new, kept, Look, Found, Lost, wanted, looked, firstHead}
 use Rattle.device.specs.inner.Bounds.{spot}
+use Rattle.health.specs.Health.{refusesProgram}
 
 -- Block k holds the file up to position s, at offset off; n more positions go into it. First the gap's zeros, then the data:
 unfoldable pub fronted : ℕ → ℕ → ℕ → ℕ → ℕ → ℕ → List ℕ → List ℕ → List ℕ
