@@ -3,7 +3,7 @@ use mathlib.Core.Path.{refl, sym, subst}
 use mathlib.Core.Bool.{Bool, _&&_}
 use mathlib.Core.List.{List}
 use Prim.Native.Nat.{ℕ}
-use Rattle.device.specs.Health.{healthOk}
+use Rattle.health.specs.Health.{healthOk}
 use Rattle.window.specs.Value.{lookaheadFits}
 use Rattle.window.proofs.Kept.{fresh-valid}
 use Rattle.windows.proofs.Came.{fresh-clean}

@@ -10,7 +10,7 @@ use lib.Seq.{take-set-lt}
 use Rattle.layout.specs.Layout.{indexAt}
 use Rattle.card.proofs.Cards.{card}
 use Rattle.ctz.specs.Lists.{SoundList, down}
-use Rattle.device.specs.Health.{healthOk}
+use Rattle.health.specs.Health.{healthOk}
 use Rattle.files.specs.declared.Entry.{Entry}
 use Rattle.files.specs.declared.Table.{Table}
 use Rattle.files.specs.Table.{held, file, filesOk, tableOk}

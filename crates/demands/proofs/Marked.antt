@@ -12,7 +12,7 @@ use Rattle.card.specs.Card.{goodCard, pointer}
 use Rattle.ctz.specs.Lookup.{walk, walkTo}
 use Rattle.ctz.specs.Visits.{visitOf, visit, hand}
 use Rattle.device.specs.Device.{stored, wiped}
-use Rattle.device.specs.Health.{eachValid, healthOk}
+use Rattle.health.specs.Health.{eachValid, healthOk}
 use Rattle.files.specs.declared.Entry.{Entry}
 use Rattle.files.specs.Table.{searchOf, findOf, headOk, entryOk, filesOk, tableOf, tableOk}
 use Rattle.window.specs.Allocate.{allocBy, allocOf, skip, takeOf}

@@ -7,7 +7,6 @@ use Prim.Native.Nat.{ℕ, _+_, _-_, _%_, _≤_, _<_}
 use native.Mathlib.Nat.{mod-lt}
 use native.Mathlib.Omega.{arith}
 use lib.ListN.{length}
-use Rattle.device.specs.Device.{refusesErase, refusesProgram}
 use Rattle.files.specs.declared.Table.{Table}
 use Rattle.grow.specs.Extend.{tookOf}
 use Rattle.window.specs.declared.Lookahead.{Lookahead}
@@ -31,6 +30,7 @@ use Rattle.trials.specs.Loop.{Took, Block, None, Bad}
 use Rattle.grow.specs.inner.Extend.{windowAlloc}
 use Rattle.card.specs.inner.Cards.{CardFacts, cardWith}
 use Rattle.window.specs.inner.Facts.{ValidWindow, GoodScope, scope}
+use Rattle.health.specs.Health.{refusesErase, refusesProgram}
 
 -- ---- what an answer tells
 

@@ -5,7 +5,7 @@ use Prim.Native.Nat.{ℕ}
 use lib.IntN.{ℤ, pos, negsuc}
 use lib.Signed.{leZ}
 use Rattle.layout.specs.Numbers.{no-space}
-use Rattle.device.specs.Health.{healthOk}
+use Rattle.health.specs.Health.{healthOk}
 use Rattle.files.specs.declared.Entry.{Entry}
 use Rattle.files.specs.Table.{held, listOf}
 use Rattle.grow.specs.Setting.{Setting, State}

@@ -8,7 +8,6 @@ use lib.ListN.{length, take}
 use Rattle.layout.specs.Numbers.{accepted, no-space}
 use Rattle.layout.specs.Layout.{indexAt}
 use Rattle.span.specs.Members.{has}
-use Rattle.device.specs.Device.{refusesErase, refusesProgram}
 use Rattle.ctz.specs.Visits.{visitOf}
 use Rattle.files.specs.declared.Entry.{Entry}
 use Rattle.files.specs.Table.{held, listOf}
@@ -18,6 +17,7 @@ use Rattle.store.specs.Asked.{WriteAsked, TruncateAsked}
 use Rattle.old_list.specs.Write.{zeros}
 use Rattle.demands.specs.Calls.{Left}
 use Rattle.windows.specs.Space.{usedFor, markedIn, goodUnused}
+use Rattle.health.specs.Health.{refusesErase, refusesProgram}
 
 -- a good block takes an erase and a program: it refuses neither
 abbrev pub goodBlock : List ℕ → ℕ → Bool

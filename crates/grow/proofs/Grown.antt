@@ -13,7 +13,7 @@ use Rattle.layout.specs.Layout.{pointers, indexAt, offsetAt}
 use Rattle.layout.proofs.Served.{wide}
 use Rattle.span.specs.Words.{bytes32}
 use Rattle.span.proofs.Words.{length-bytes32}
-use Rattle.device.specs.Device.{stored, wiped, refusesErase}
+use Rattle.device.specs.Device.{stored, wiped}
 use Rattle.device.proofs.Blanks.{blank-wiped, blank-part, blank-stored}
 use Rattle.files.specs.declared.Table.{Table}
 use Rattle.window.specs.declared.Lookahead.{Lookahead}
@@ -37,6 +37,7 @@ use Rattle.card.specs.Card.{pointer}
 use Rattle.device.specs.inner.Bounds.{spot, Blank}
 use Rattle.window.specs.inner.Facts.{ValidWindow, scope}
 use Rattle.card.specs.inner.Cards.{cardWith}
+use Rattle.health.specs.Health.{refusesErase}
 
 -- the ways of an answer that a link gives for block k, with its image: made, with erased room in the block, or -84
 pub data Ends (B k : ℕ) : Growth → List ℕ → Type 0 where

@@ -9,7 +9,7 @@ use borrow.Author.Tests.{ltb-true, ltb-false, lt-ltb, le-ltb}
 use lib.Dec.{ltb}
 use lib.ListN.{length}
 use Rattle.layout.specs.Layout.{offsetAt}
-use Rattle.device.specs.Device.{stored, wiped, refusesErase, refusesProgram}
+use Rattle.device.specs.Device.{stored, wiped}
 use Rattle.device.proofs.Frame.{wiped-length}
 use Rattle.files.specs.declared.Table.{Table}
 use Rattle.window.specs.declared.Lookahead.{Lookahead}
@@ -37,6 +37,7 @@ use Rattle.grow.proofs.Growths.{link-nested, growth-ends, growth-some, 
 use Rattle.card.specs.inner.Cards.{CardFacts, cardWith}
 use Rattle.device.specs.inner.Bounds.{spot}
 use Rattle.window.specs.inner.Facts.{ValidWindow, scope}
+use Rattle.health.specs.Health.{refusesErase, refusesProgram}
 
 -- ---- the window comes to an end
 

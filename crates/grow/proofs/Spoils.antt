@@ -5,8 +5,8 @@ use mathlib.Core.List.{List}
 use Prim.Native.Nat.{ℕ, _≤_, _<_}
 use lib.Dec.{ltb}
 use borrow.Author.Tests.{lt-ltb, le-ltb}
-use Rattle.device.specs.Device.{refusesProgram}
 use Rattle.grow.specs.inner.Grow.{spoils}
+use Rattle.health.specs.Health.{refusesProgram}
 
 module _ (health : List ℕ) (N k head s : ℕ) where
   -- the block takes programs

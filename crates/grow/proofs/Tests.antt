@@ -9,8 +9,8 @@ use lib.ListN.{length}
 use borrow.Author.Tests.{leb-true, not-true, not-false}
 use Rattle.card.specs.Card.{goodCard}
 use Rattle.card.proofs.Cards.{card}
-use Rattle.device.specs.Health.{healthOk}
-use Rattle.device.proofs.Health.{healthy}
+use Rattle.health.specs.Health.{healthOk}
+use Rattle.health.proofs.Health.{healthy}
 use Rattle.files.specs.declared.Table.{Table}
 use Rattle.files.specs.Table.{tableOk}
 use Rattle.window.specs.declared.Lookahead.{Lookahead}

@@ -8,7 +8,7 @@ use lib.ListN.{getD}
 use borrow.Author.Tests.{ne-eqb}
 use Rattle.device.specs.declared.Erased.{Erased}
 use Rattle.device.specs.declared.Erased.the-variants.{Wiped, Kept}
-use Rattle.device.specs.Device.{wiped, refusesErase}
+use Rattle.device.specs.Device.{wiped}
 use Rattle.device.proofs.Steps.{told-wiped, told-kept}
 use Rattle.window.proofs.Cases.{no-both}
 use Rattle.grow.specs.declared.Growth.{Growth}
@@ -22,6 +22,7 @@ use Rattle.trials.specs.Loop.{Took, Block}
 use Rattle.grow.specs.Extend.{grow-out}
 use Rattle.grow.specs.inner.Grow.{linkOf, spoils, growOf}
 use Rattle.device.specs.inner.Steps.{eraseOf, EraseGives}
+use Rattle.health.specs.Health.{refusesErase}
 
 module _ (health : List ℕ) (B N k head s : ℕ) (img : List ℕ) where
   -- r is the device's answer to the erase, img′ the image that it left

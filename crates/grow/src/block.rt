@@ -34,7 +34,7 @@ fn put_pointers(
         if n <= cur {
             return Linked::Done(Growth::Damaged);
         }
-        let put = device::program_word(image, health, b, k, 4 * x, cur);
+        let put = programs::program_word(image, health, b, k, 4 * x, cur);
         match put {
             Programmed::Stored => {}
             Programmed::Refused => {
@@ -73,7 +73,7 @@ fn link(image: &mut [u8], health: &[u8], b: u32, n: u32, k: u32, head: u32, size
         let count = layout::pointer_count(index + 1);
         return put_pointers(image, health, b, n, k, count, head);
     }
-    let put = device::program_copy(image, health, b, k, 0, head, 0, used);
+    let put = programs::program_copy(image, health, b, k, 0, head, 0, used);
     match put {
         Programmed::Stored => Linked::Done(Growth::Grown {
             block: k,

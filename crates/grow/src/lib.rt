@@ -44,7 +44,7 @@ fn valid_extend(
     if !card::good_card(g, len) {
         return false;
     }
-    if !device::good_health(health, n) {
+    if !health::good_health(health, n) {
         return false;
     }
     if !window::valid_lookahead(l) {

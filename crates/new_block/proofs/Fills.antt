@@ -11,7 +11,7 @@ use lib.ListN.{length, take, drop, replicate, length-drop, drop-of-length-le}
 use lib.Seq.{take-all, take-nil}
 use Rattle.device.specs.declared.Programmed.{Programmed}
 use Rattle.device.specs.declared.Programmed.the-variants.{Stored, Refused}
-use Rattle.device.specs.Device.{stored, refusesProgram}
+use Rattle.device.specs.Device.{stored}
 use Rattle.device.proofs.Blanks.{blank-part}
 use Rattle.device.proofs.Steps.{program-stored, told-stored, told-refused}
 use Rattle.files.specs.declared.Entry.{Entry}
@@ -26,6 +26,7 @@ use Rattle.layout.specs.Numbers.{sizeMax}
 use Rattle.device.specs.inner.Bounds.{spot, RoomIn, Blank}
 use Rattle.device.specs.inner.Steps.{ProgramOut, programOf, ProgramGives}
 use Rattle.old_list.specs.inner.Lookups.{lookIn}
+use Rattle.health.specs.Health.{refusesProgram}
 
 -- ---- a run of the data, cut to what there is
 

@@ -41,7 +41,7 @@ fn front(
         r (now (image .exit)) ⌝ }
 {
     let gap = least(beyond(pos, s), m);
-    let put = device::program_zeros(image, health, b, k, off, gap);
+    let put = programs::program_zeros(image, health, b, k, off, gap);
     match put {
         Programmed::Stored => {}
         Programmed::Refused => {
@@ -51,7 +51,7 @@ fn front(
     let size = data.len() as u32;
     let from = least(beyond(s, pos), size);
     let run = least(m - gap, size - from);
-    device::program(
+    programs::program(
         image,
         health,
         b,
@@ -88,7 +88,7 @@ fn tail(
     let old = look(b, n, &image[..], e, s + at);
     match old {
         Looked::Block(block) => {
-            device::program_copy(image, health, b, k, off + at, block, off + at, m - at);
+            programs::program_copy(image, health, b, k, off + at, block, off + at, m - at);
             Filled::Done(s + m)
         }
         Looked::Lost => Filled::Damaged,

@@ -14,16 +14,18 @@ use Rattle.ctz.specs.declared.Found.{Found}
 use Rattle.ctz.specs.declared.Found.the-variants as found
 use Rattle.plain.specs.Reading.{Part, partOf, stretchIn, Got, Bytes, gather, readIn}
 use Rattle.plain.proofs.Reading.{stretch-past}
-use Rattle.reading.specs.inner.Bounds.{Listed, Ranged}
+use Rattle.reading.specs.inner.Bounds.{Listed}
+use Rattle.finding.specs.inner.Bounds.{Ranged}
 use Rattle.reading.specs.Calls.{given, placedOf, placedPlace, placedLength}
 use Rattle.reading.specs.declared.Reading.the-variants as reading
 use Rattle.reading.specs.declared.Placed.the-variants as placed
-use Rattle.reading.proofs.Parts.{never-both}
-use Rattle.reading.proofs.Gathers.{all-none, Gave, copied, damaged, gave, offset-below, step}
+use Rattle.finding.proofs.Parts.{never-both}
+use Rattle.finding.proofs.Gathers.{all-none, Gave, copied, damaged, gave, offset-below, step}
 use Rattle.card.specs.inner.Cards.{cardWith}
 use Rattle.layout.specs.inner.Served.{blockList}
 use Rattle.plain.specs.inner.Forms.{range}
-use Rattle.reading.specs.inner.Runs.{clean, gotBytes, Copied, copiedOf}
+use Rattle.finding.specs.inner.Runs.{clean, gotBytes}
+use Rattle.copies.specs.inner.Copies.{Copied, copiedOf}
 
 -- a position below the size has a run of bytes to the end behind it
 pub ranged : {B N size len : ℕ} (p n : ℕ) → Listed B N size len → p + n ≤ size → Ranged B N size p n len
@@ -40,17 +42,6 @@ gives-damaged : (n : ℕ) {g : Got} (buffer after : List ℕ) → Gave n g → c
     → record { answer = reading.Damaged; buffer = after } ≡ given buffer g
 gives-damaged n buffer after (copied bs e) c a = absurd (never-both refl c)
 gives-damaged n buffer after damaged c a = rw a refl
-
--- a run that was copied, and one that was not
-pub run-copied : (buffer after : List ℕ) (g : Got) → clean g ≡ true → after ≡ sets buffer 0 (gotBytes g) → record { whole = true; after = after } ≡ copiedOf buffer g
-unfolding copiedOf
-run-copied buffer after g c a = rw (c, a) refl
-
-pub run-damaged : (buffer : List ℕ) (g : Got) → clean g ≡ false → record { whole = false; after = buffer } ≡ copiedOf buffer g
-unfolding copiedOf
-run-damaged buffer (Bytes bs) c = absurd (never-both refl c)
-run-damaged buffer Got.Damaged c = refl
-run-damaged buffer Got.Refused c = refl
 
 module _ (image : List ℕ) (B N head size p : ℕ) (buffer : List ℕ) where
   pub read-none : (n : ℕ) → n ≡ min (length buffer) (size - p) → n ≡ 0

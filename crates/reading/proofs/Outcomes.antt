@@ -14,7 +14,7 @@ use Rattle.reading.specs.Calls.{Outcome, given, askedOf, readOf, readCod
 use Rattle.reading.specs.declared.Asked.{Asked}
 use Rattle.reading.specs.declared.Asked.the-variants as asked
 use Rattle.reading.specs.declared.Reading.the-variants as reading
-use Rattle.reading.proofs.Gathers.{Gave, copied, damaged}
+use Rattle.finding.proofs.Gathers.{Gave, copied, damaged}
 use Rattle.reading.proofs.Inner.{readIn-gave}
 use Rattle.reading.proofs.Asks.{listed}
 use Rattle.reading.proofs.Results.{read-file, read-missing, read-refused}

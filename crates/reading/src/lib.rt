@@ -1,8 +1,5 @@
 // The reading calls of the store: read, and the stretch with its companion. Both see geometry, image, table, file number and position.
-mod copies;
-mod finding;
 mod list;
-mod numbers;
 
 use files::Found;
 use files::Table;

@@ -1,11 +1,11 @@
 // Reading one list on a card: behind the tests of geometry, slice, table, file number and position.
 use crate::Placed;
 use crate::Reading;
-use crate::copies::copy_found;
-use crate::numbers::fitting;
-use crate::numbers::least;
-use crate::numbers::remaining;
+use copies::copy_found;
 use ctz::Found;
+use finding::numbers::fitting;
+use finding::numbers::least;
+use finding::numbers::remaining;
 ghost use mathlib.Core.Path.{_≡_};
 ghost use lib.ListN.{length};
 ghost use Rattle.plain.specs.Reading.{readIn, stretchIn};

@@ -7,7 +7,7 @@ use native.Mathlib.Omega.{arith}
 use borrow.Author.Tests.{ltb-true, ltb-false}
 use lib.Dec.{ltb}
 use lib.ListN.{length}
-use Rattle.device.specs.Device.{wiped, refusesErase, refusesProgram}
+use Rattle.device.specs.Device.{wiped}
 use Rattle.device.proofs.Frame.{wiped-length}
 use Rattle.trials.specs.Trial.{Trial, Fault, ends}
 use Rattle.trials.specs.Loop.{Took, Block, None, Bad, Flash}
@@ -26,6 +26,7 @@ use Rattle.new_list.specs.inner.Write.{grownOf, writeOf}
 use Rattle.store.proofs.Parts.{trial-stops}
 use Rattle.store.proofs.Tried.{nested, plan, looped, after, after-bad, Goes, link-good, refuses, loses, trial-some, first-some}
 use Rattle.card.specs.inner.Cards.{CardFacts}
+use Rattle.health.specs.Health.{refusesErase, refusesProgram}
 
 module _ {W : Type 0} (look : List ℕ → ℕ → Look) (tries : W → ℕ) (c : Flash W) (j : Job) (fits : new j < 2 ^ 32) where
   -- ---- one block that is erased, whatever its health

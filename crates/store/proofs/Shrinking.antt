@@ -10,7 +10,7 @@ use Rattle.span.specs.Words.{wordAt}
 use Rattle.layout.specs.Layout.{pointers, capacity, start, indexAt, offsetAt}
 use Rattle.card.specs.Card.{goodCard, pointer}
 use Rattle.ctz.specs.Lookup.{walk, walkTo}
-use Rattle.device.specs.Health.{eachValid, healthOk}
+use Rattle.health.specs.Health.{eachValid, healthOk}
 use Rattle.files.specs.declared.Table.{Table}
 use Rattle.files.specs.Table.{searchOf, findOf, headOk, entryOk, filesOk, tableOf, tableOk}
 use Rattle.window.specs.declared.Lookahead.{Lookahead}

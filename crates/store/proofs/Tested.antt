@@ -7,8 +7,8 @@ use native.Mathlib.Nat.{le-of-eq}
 use native.Mathlib.Omega.{arith}
 use lib.ListN.{length}
 use Rattle.card.specs.Card.{goodCard}
-use Rattle.device.specs.Health.{healthOk}
-use Rattle.device.proofs.Health.{healthy}
+use Rattle.health.specs.Health.{healthOk}
+use Rattle.health.proofs.Health.{healthy}
 use Rattle.files.specs.declared.Table.{Table}
 use Rattle.files.specs.declared.Found.the-variants as place
 use Rattle.files.specs.Table.{file, findOf}

@@ -9,7 +9,7 @@ use borrow.Author.Tests.{ltb-true}
 use lib.Dec.{ltb}
 use lib.ListN.{length, take, length-append, length-take}
 use Rattle.layout.specs.Layout.{offsetAt}
-use Rattle.device.specs.Device.{stored, wiped, refusesErase, refusesProgram}
+use Rattle.device.specs.Device.{stored, wiped}
 use Rattle.device.proofs.Frame.{stored-length, wiped-length}
 use Rattle.trials.specs.Trial.{Trial, Ending, Whole, Fault, ends, more, whole, takenBy}
 use Rattle.trials.specs.Loop.{Block, Flash, Plan, Corrupt, WriteOut, write-out, writeBy, Candidate}
@@ -28,6 +28,7 @@ use Rattle.layout.specs.inner.Served.{BlockSized}
 use Rattle.card.specs.inner.Cards.{CardFacts}
 use Rattle.device.specs.inner.Bounds.{spot}
 use Rattle.new_block.specs.inner.Fill.{fronted}
+use Rattle.health.specs.Health.{refusesErase, refusesProgram}
 
 module _ {W : Type 0} (look : List ℕ → ℕ → Look) (tries : W → ℕ) (c : Flash W) (j : Job) (fits : new j < 2 ^ 32) where
   -- the nested write, and the loop

@@ -24,7 +24,7 @@ pub fn valid_store(g: Geometry, l: u32, len: usize, health: &[u8], w: Lookahead)
     if !card::good_card(g, len) {
         return false;
     }
-    if !device::good_health(health, n) {
+    if !health::good_health(health, n) {
         return false;
     }
     if !window::valid_lookahead(l) {

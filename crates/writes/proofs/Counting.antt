@@ -9,7 +9,6 @@ use borrow.Author.Tests.{ltb-true, ltb-false, lt-ltb, le-ltb}
 use lib.Dec.{ltb}
 use lib.ListN.{length}
 use Rattle.layout.specs.Layout.{indexAt, offsetAt}
-use Rattle.device.specs.Device.{refusesProgram}
 use Rattle.old_list.specs.Write.{Job, new, kept, over, looked, wanted, firstHead, Look, Found, Lost}
 use Rattle.writes.proofs.Fills.{front-card, front-others}
 use Rattle.writes.proofs.Widths.{share, room, needs, need}
@@ -21,6 +20,7 @@ use Rattle.grow.specs.inner.Grow.{part, growOf}
 use Rattle.new_list.specs.inner.Write.{filledOf, grownOf, writeOf, putOf}
 use Rattle.card.specs.inner.Cards.{CardFacts}
 use Rattle.new_block.specs.inner.Fill.{fronted, tailed}
+use Rattle.health.specs.Health.{refusesProgram}
 
 no-need : (B : ℕ) (j : Job) (s : ℕ) → new j ≤ s → need B j s ≡ 0
 unfolding need

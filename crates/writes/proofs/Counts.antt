@@ -14,7 +14,7 @@ use Rattle.span.proofs.Words.{length-bytes32}
 use Rattle.layout.specs.Layout.{pointers, start, indexAt, offsetAt}
 use Rattle.layout.proofs.Laws.{pointers-zero}
 use Rattle.layout.proofs.Places.{offset-inside, offset-of, next-place, Same, Next}
-use Rattle.device.specs.Device.{stored, wiped, refusesErase, refusesProgram}
+use Rattle.device.specs.Device.{stored, wiped}
 use Rattle.grow.specs.declared.Growth.the-variants.{Grown, Full, Damaged}
 use Rattle.writes.proofs.Cells.{stored-card, stored-other, cell}
 use Rattle.writes.proofs.Index.{in-block, roomy}
@@ -28,6 +28,7 @@ use Rattle.layout.proofs.InBlock.{InBlock}
 use Rattle.card.specs.inner.Cards.{CardFacts}
 use Rattle.card.specs.Card.{pointer}
 use Rattle.device.specs.inner.Bounds.{spot}
+use Rattle.health.specs.Health.{refusesErase, refusesProgram}
 
 -- only block k of the card changes
 pub record Only (B N k : ℕ) (img img′ : List ℕ) : Type 0 where

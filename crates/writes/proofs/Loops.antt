@@ -9,7 +9,6 @@ use borrow.Author.Tests.{ltb-true, ltb-false}
 use lib.Dec.{ltb}
 use lib.ListN.{length}
 use Rattle.layout.specs.Layout.{indexAt, offsetAt}
-use Rattle.device.specs.Device.{refusesProgram}
 use Rattle.grow.specs.declared.Growth.the-variants.{Full}
 use Rattle.old_list.specs.Write.{Job, new, Look}
 use Rattle.writes.proofs.Grows.{Growing, Got, growing}
@@ -24,6 +23,7 @@ use Rattle.grow.specs.Extend.{GrowOut}
 use Rattle.grow.specs.inner.Grow.{growOf}
 use Rattle.new_list.specs.inner.Write.{grownOf, writeOf}
 use Rattle.card.specs.inner.Cards.{CardFacts}
+use Rattle.health.specs.Health.{refusesProgram}
 
 module _ {W : Type 0} (look : List ℕ → ℕ → Look) (B N : ℕ) (health : List ℕ) (tries : W → ℕ) (alloc : W → List ℕ → Took W)
     (L : ℕ → Type 0) (Ok : W → List ℕ → List ℕ → Type 0)

@@ -1,9 +1,8 @@
--- What the device's steps and the test of the health bytes ask of their numbers.
+-- What the device's steps ask of their numbers.
 use mathlib.Core.Path.{_≡_}
 use mathlib.Core.Logic.{_⊎_}
 use mathlib.Core.List.{List}
 use Prim.Native.Nat.{ℕ, _+_, _*_, _≤_, _<_}
-use lib.Bits.{bitOr}
 use lib.ListN.{length, getD}
 use Rattle.device.specs.Device.{Spot}
 
@@ -31,11 +30,3 @@ pub record Blank (B k o n : ℕ) (image : List ℕ) : Type 0 where
 -- block, offset
 abbrev pub spot : ℕ → ℕ → Spot
 spot k o = record { block = k; offset = o }
-
--- t ORed with four bytes, q places apart from place a on
-unfoldable pub orFour : List ℕ → ℕ → ℕ → ℕ → ℕ
-orFour hs a q t = bitOr (bitOr (bitOr (bitOr t (getD hs a 0)) (getD hs (a + q) 0)) (getD hs (a + 2 * q) 0)) (getD hs (a + 3 * q) 0)
-
--- no byte from place a up to place e is above t
-pub record NoneAbove (hs : List ℕ) (a e t : ℕ) : Type 0 where
-  pub below : (i : ℕ) → a ≤ i → i < e → getD hs i 0 ≤ t

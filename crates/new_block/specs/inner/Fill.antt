@@ -6,7 +6,7 @@ use Prim.Native.Nat.{ℕ, _+_, _-_, min, _≤_, _<_}
 use lib.Dec.{ltb}
 use lib.ListN.{length, take, drop}
 use Rattle.device.specs.declared.Programmed.the-variants.{Stored, Refused}
-use Rattle.device.specs.Device.{stored, refusesProgram}
+use Rattle.device.specs.Device.{stored}
 use Rattle.files.specs.declared.Entry.{Entry}
 use Rattle.new_block.specs.declared.Filled.{Filled}
 use Rattle.new_block.specs.declared.Filled.the-variants.{Done, Spoiled, Damaged}
@@ -16,6 +16,7 @@ use Rattle.card.specs.inner.Cards.{CardFacts}
 use Rattle.device.specs.inner.Steps.{ProgramOut}
 use Rattle.grow.specs.inner.Grow.{part}
 use Rattle.device.specs.inner.Bounds.{Blank, spot}
+use Rattle.health.specs.Health.{refusesProgram}
 
 -- Block k holds the file up to position s, at offset off; n more positions go into it. First the gap's zeros, then the data:
 unfoldable pub fronted : ℕ → ℕ → ℕ → ℕ → ℕ → ℕ → List ℕ → List ℕ → List ℕ

@@ -5,7 +5,7 @@ use native.Mathlib.Nat.{min-le-left, min-le-right}
 use borrow.Author.Tests.{not-true, not-false}
 use denote.Ref.{now}
 use lib.ListN.{length}
-use Rattle.reading.specs.inner.Bounds.{Roomy}
+use Rattle.copies.specs.inner.Copies.{Roomy}
 use Rattle.reading.proofs.Inner.{ranged, read-none, read-damaged, read-copied}
 use native.Mathlib.Omega.{arith}
 use borrow.Author.Needs.{needs}

@@ -1,0 +1,3 @@
+-- The laws of the passes that copy.
+pub mod Copying
+pub mod Outcomes

@@ -1,0 +1,2 @@
+-- The definitions that the contracts of `finding` cite.
+pub mod inner

@@ -1,0 +1,3 @@
+-- The laws of the health bytes, for the crates above.
+pub mod Health
+pub mod Runs
