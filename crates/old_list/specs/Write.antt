@@ -24,6 +24,7 @@ pub record Job : Type 0 where
   pub pos : ℕ
   pub src : List ℕ
 
+-- a write to this file of the table
 abbrev pub jobOf : Entry → ℕ → List ℕ → Job
 jobOf e p src = record { head = e .head; old = e .size; pos = p; src = src }
 

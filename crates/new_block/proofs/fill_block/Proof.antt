@@ -1,4 +1,4 @@
--- `store::block::fill_block` meets its contract: the front decides whether the block refuses, and the tail goes behind it. Assumes nothing.
+-- `new_block::fill_block` meets its contract: the front decides whether the block refuses, and the tail goes behind it. Assumes nothing.
 use borrow.Author.Needs.{needs}
 use Rattle.new_block.proofs.Fills.{front-asks, tail-asked, fill-spoiled, fill-on}
 use Rattle.new_block.proofs.fill_block.Statement.{statement}

@@ -1,4 +1,4 @@
--- `store::block::front` meets its contract: the zeros, then the run of data that there is. Assumes nothing.
+-- `new_block::front` meets its contract: the zeros, then the run of data that there is. Assumes nothing.
 use native.Mathlib.Nat.{lt-of-le-of-lt}
 use Rattle.new_block.proofs.Blanks.{zeros-blank, data-blank}
 use Rattle.new_block.proofs.Fills.{gap-fits, front-spoiled, front-goes}

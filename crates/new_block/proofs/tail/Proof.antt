@@ -1,4 +1,4 @@
--- `store::block::tail` meets its contract: behind the front the tail is not due, its block is lost, or it is copied. Assumes nothing.
+-- `new_block::tail` meets its contract: behind the front the tail is not due, its block is lost, or it is copied. Assumes nothing.
 use borrow.Author.Needs.{needs}
 use Rattle.new_block.proofs.Tails.{tail-none, tail-looks, tail-lost, tail-asks, tail-copied}
 use Rattle.new_block.proofs.tail.Statement.{statement}

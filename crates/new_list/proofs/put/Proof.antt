@@ -1,4 +1,4 @@
--- `store::growths::put` meets its contract: a block that is not found ends it, else the growths give what it gives. Assumes nothing.
+-- `new_list::put` meets its contract: a block that is not found ends it, else the growths give what it gives. Assumes nothing.
 use Rattle.new_list.proofs.Puts.{putting-look, putting-on, put-lost, put-tailless, put-goes}
 use Rattle.new_list.proofs.Goes.{wrote-as}
 use borrow.Author.Needs.{needs}

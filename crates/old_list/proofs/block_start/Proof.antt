@@ -1,4 +1,4 @@
--- `store::old::block_start` meets its contract: what the offset counts behind the pointers lies behind the block's first position. Assumes nothing.
+-- `old_list::block_start` meets its contract: what the offset counts behind the pointers lies behind the block's first position. Assumes nothing.
 use mathlib.Core.Path.{refl, ap}
 use Rattle.layout.specs.Layout.{pointers}
 use Rattle.layout.proofs.Places.{offset-past, offset-of}

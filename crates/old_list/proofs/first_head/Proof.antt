@@ -1,4 +1,4 @@
--- `store::old::first_head` meets its contract: by where q lies, the block of byte q - 1 is the last one that is looked for. Assumes nothing.
+-- `old_list::first_head` meets its contract: by where q lies, the block of byte q - 1 is the last one that is looked for. Assumes nothing.
 use mathlib.Core.Path.{sym, _∙_}
 use mathlib.Core.Logic.{⊎-elim}
 use Rattle.layout.proofs.Served.{served}

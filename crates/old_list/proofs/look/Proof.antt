@@ -1,4 +1,4 @@
--- `store::old::look` meets its contract: the head at the last byte, else the lookup's answer, case by case. Assumes nothing.
+-- `old_list::look` meets its contract: the head at the last byte, else the lookup's answer, case by case. Assumes nothing.
 use mathlib.Core.Path.{sym, ap, _∙_}
 use Rattle.ctz.specs.declared.Found.{Found}
 use Rattle.old_list.specs.Write.{Look, lookOf}

@@ -1,4 +1,4 @@
--- `store::old::look_before` meets its contract: the block before the head's is the head's pointer 0; else it is looked for. Assumes nothing.
+-- `old_list::look_before` meets its contract: the block before the head's is the head's pointer 0; else it is looked for. Assumes nothing.
 use mathlib.Core.Path.{sym, ap, _∙_}
 use Prim.Native.Nat.{_-_}
 use Rattle.layout.proofs.Served.{served}

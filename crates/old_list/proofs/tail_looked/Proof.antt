@@ -1,4 +1,4 @@
--- `store::old::tail_looked` meets its contract: what is left to look for equals the whole. Assumes nothing.
+-- `old_list::tail_looked` meets its contract: what is left to look for equals the whole. Assumes nothing.
 use mathlib.Core.Path.{_≡_, refl, sym, ap, _∙_}
 use Prim.Native.Nat.{ℕ, _+_, _-_}
 use Rattle.layout.proofs.Places.{offset-inside}
