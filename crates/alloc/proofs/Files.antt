@@ -5,17 +5,17 @@ use mathlib.Core.List.{List, [], _∷_}
 use Prim.Native.Nat.{ℕ, _-_, _<_}
 use native.Mathlib.Omega.{arith}
 use Rattle.layout.specs.Layout.{indexAt}
+use Rattle.layout.specs.inner.Served.{blockList}
+use Rattle.card.specs.Card.{pointer}
+use Rattle.card.specs.inner.Cards.{cardWith}
 use Rattle.ctz.specs.Visits.{Visited, visitOf}
+use Rattle.ctz.specs.inner.Held.{visitAt, handOn}
 use Rattle.ctz.proofs.Visiting.{visitFrom, visit-begins, visit-empty}
 use Rattle.files.specs.declared.Entry.{Entry}
 use Rattle.window.specs.Scan.{markMap, markAll}
 use Rattle.window.specs.inner.Facts.{MarkAsked, windowOn}
-use Rattle.alloc.specs.inner.Facts.{FileAsked, FileMarked}
 use Rattle.alloc.specs.Visits.{seenFrom}
-use Rattle.card.specs.Card.{pointer}
-use Rattle.card.specs.inner.Cards.{cardWith}
-use Rattle.layout.specs.inner.Served.{blockList}
-use Rattle.ctz.specs.inner.Held.{visitAt, handOn}
+use Rattle.alloc.specs.inner.Facts.{FileAsked, FileMarked}
 
 -- a block that the visit hands over can be marked
 pub mark-asked : {start size B N len k : ℕ} {e : Entry} → FileAsked start size B N len e → k < N → MarkAsked start size N k

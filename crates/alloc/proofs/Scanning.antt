@@ -7,6 +7,7 @@ use native.Mathlib.Numerals.{add-one}
 use native.Mathlib.Omega.{arith}
 use lib.ListN.{length, getD}
 use lib.Seq.{slice, slice-cons}
+use Rattle.card.specs.inner.Cards.{cardWith}
 use Rattle.files.specs.declared.Entry.{Entry}
 use Rattle.files.specs.declared.Table.{Table}
 use Rattle.files.specs.Table.{noEntry}
@@ -15,11 +16,10 @@ use Rattle.window.specs.declared.Lookahead.{Lookahead}
 use Rattle.window.specs.declared.Scanned.{Scanned}
 use Rattle.window.specs.Scan.{markAll, Seen, seenAll, cleared, scanFrom, scanOf}
 use Rattle.window.specs.Value.{withMap, droppedOf}
+use Rattle.window.specs.inner.Facts.{windowOn, scope}
 use Rattle.window.proofs.Scans.{marks-seen, scan-start, scan-end, scan-file, scan-stops}
 use Rattle.alloc.specs.Visits.{seenOf, visitsOf, seenIn}
-use Rattle.window.specs.inner.Facts.{windowOn, scope}
 use Rattle.alloc.specs.inner.Facts.{FileMarked}
-use Rattle.card.specs.inner.Cards.{cardWith}
 
 module _ (B N : ℕ) (image : List ℕ) (fs : List Entry) (count : ℕ) where
   -- what the files from place i on make of a window

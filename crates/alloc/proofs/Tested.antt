@@ -4,7 +4,9 @@ use mathlib.Core.Bool.{true, false}
 use mathlib.Core.List.{List}
 use Prim.Native.Nat.{ℕ}
 use lib.ListN.{length}
+use Rattle.layout.specs.inner.Served.{geometry}
 use Rattle.card.specs.Card.{goodCard}
+use Rattle.card.specs.inner.Cards.{cardWith}
 use Rattle.card.proofs.Cards.{card}
 use Rattle.files.specs.declared.Table.{Table}
 use Rattle.files.specs.Table.{tableOk}
@@ -13,13 +15,11 @@ use Rattle.window.specs.declared.Answer.the-variants.{Refused}
 use Rattle.window.specs.declared.Allocated.{Allocated}
 use Rattle.window.specs.Value.{lookaheadFits, validOf}
 use Rattle.window.specs.Allocate.{allocOf}
+use Rattle.window.specs.inner.Facts.{scope}
 use Rattle.window.proofs.Valid.{looks, tested-valid}
 use Rattle.alloc.specs.Visits.{seenIn}
 use Rattle.alloc.specs.Allocate.{allocateOf}
-use Rattle.window.specs.inner.Facts.{scope}
 use Rattle.alloc.specs.inner.Facts.{Ready}
-use Rattle.layout.specs.inner.Served.{geometry}
-use Rattle.card.specs.inner.Cards.{cardWith}
 
 module _ (B N l : ℕ) (image : List ℕ) (t : Table) (w : Lookahead) where
   pub no-card : goodCard (geometry B N) (length image) ≡ false → record { answer = Refused; window = w } ≡ allocateOf (cardWith B N image) l t w

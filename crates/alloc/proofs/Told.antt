@@ -3,11 +3,15 @@ use mathlib.Core.Path.{_≡_, refl}
 use mathlib.Core.Bool.{Bool, true, false}
 use mathlib.Core.List.{List, [], _∷_}
 use Prim.Native.Nat.{ℕ, zero, suc, _-_, _<_}
-use lib.Dec.{ltb, eqb}
 use native.Mathlib.Omega.{arith}
 use borrow.Author.Tests.{ltb-true, eqb-true, eqb-false}
+use lib.Dec.{ltb, eqb}
+use Rattle.span.specs.Members.{has}
 use Rattle.layout.specs.Layout.{indexAt}
+use Rattle.card.specs.Card.{pointer}
+use Rattle.card.specs.inner.Cards.{cardWith}
 use Rattle.ctz.specs.Visits.{Visited}
+use Rattle.ctz.specs.inner.Held.{visitHeld, reads-two, nextBlock, nextAfter, handOn}
 use Rattle.ctz.proofs.Visiting.{visit-empty, visit-begins}
 use Rattle.files.specs.declared.Entry.{Entry}
 use Rattle.files.specs.declared.Table.{Table}
@@ -15,17 +19,13 @@ use Rattle.files.specs.Table.{held}
 use Rattle.window.specs.declared.Lookahead.{Lookahead}
 use Rattle.window.specs.declared.Answer.the-variants.{Block}
 use Rattle.window.specs.Allocate.{allocOf}
+use Rattle.window.specs.inner.Facts.{scope}
 use Rattle.windows.proofs.Views.{Tells, Lists, CleanWindow, Below}
 use Rattle.windows.proofs.Has.{below-none, below-more}
 use Rattle.windows.proofs.Single.{handed-out}
 use Rattle.windows.proofs.Listed.{AllBelow, AllOk, tells, lists}
 use Rattle.alloc.specs.Visits.{seenOf, visitsOf, seenIn, listedIn}
-use Rattle.span.specs.Members.{has}
-use Rattle.window.specs.inner.Facts.{scope}
 use Rattle.alloc.specs.inner.Facts.{Ready}
-use Rattle.card.specs.Card.{pointer}
-use Rattle.ctz.specs.inner.Held.{visitHeld, reads-two, nextBlock, nextAfter, handOn}
-use Rattle.card.specs.inner.Cards.{cardWith}
 
 abbrev Low : ℕ → Visited → Type 0
 Low N v = Below N (v .handed)

@@ -10,8 +10,8 @@ use Rattle.window.specs.declared.Scanned.{Scanned}
 use Rattle.window.specs.declared.Answer.the-variants.{Block, NoSpace, Damaged}
 use Rattle.window.specs.Allocate.{takeOf, allocBy, allocOf}
 use Rattle.window.specs.Scan.{Seen, scanOf}
-use Rattle.window.proofs.Turns.{left, alloc-block, alloc-none, alloc-damaged, alloc-again, again-valid, again-less}
 use Rattle.window.specs.inner.Facts.{ValidWindow, GoodScope, scope}
+use Rattle.window.proofs.Turns.{left, alloc-block, alloc-none, alloc-damaged, alloc-again, again-valid, again-less}
 
 module _ (n l : ℕ) (seen : Seen) (v₀ : Lookahead) where
   -- the allocation from the window v₀ comes to that from the window v, with `spare` searches more than one

@@ -11,14 +11,14 @@ use window::Lookahead;
 use window::Scanned;
 ghost use mathlib.Core.Path.{_≡_};
 ghost use lib.ListN.{length};
-ghost use Rattle.window.specs.Scan.{scanOf};
 ghost use Rattle.card.specs.Card.{cardOf};
+ghost use Rattle.card.specs.inner.Cards.{cardWith};
+ghost use Rattle.window.specs.Scan.{scanOf};
 ghost use Rattle.window.specs.Allocate.{allocOf};
+ghost use Rattle.window.specs.inner.Facts.{scope};
 ghost use Rattle.alloc.specs.Visits.{seenOf, seenIn};
 ghost use Rattle.alloc.specs.Allocate.{allocateOf};
-ghost use Rattle.window.specs.inner.Facts.{scope};
 ghost use Rattle.alloc.specs.inner.Facts.{FileAsked, FileMarked, Ready};
-ghost use Rattle.card.specs.inner.Cards.{cardWith};
 
 // Every block of one file marked in the map of a window, as the visit hands it over; false where the visit meets -84.
 fn mark_file(

@@ -6,13 +6,13 @@ use Prim.Native.Nat.{ℕ, _-_, _≤_, _<_}
 use borrow.Author.Tests.{lt-ltb, le-ltb, eq-eqb, ne-eqb}
 use lib.ListN.{length}
 use Rattle.layout.specs.Layout.{indexAt}
-use Rattle.card.specs.Card.{goodCard, pointer}
-use Rattle.audit.specs.Check.{falls, further, andThen, checkOf}
-use Rattle.audit.specs.declared.Fault.the-variants.{NotNull}
-use Rattle.audit.specs.declared.Checked.the-variants.{Sound, Unsound, Refused}
 use Rattle.layout.specs.inner.Served.{geometry, blockList}
+use Rattle.card.specs.Card.{goodCard, pointer}
 use Rattle.card.specs.inner.Cards.{cardWith}
 use Rattle.ctz.specs.inner.Forms.{pointersWith}
+use Rattle.audit.specs.declared.Fault.the-variants.{NotNull}
+use Rattle.audit.specs.declared.Checked.the-variants.{Sound, Unsound, Refused}
+use Rattle.audit.specs.Check.{falls, further, andThen, checkOf}
 
 module _ (B N : ℕ) (image : List ℕ) (head size : ℕ) where
   pub check-card : goodCard (geometry B N) (length image) ≡ false → Refused ≡ checkOf (cardWith B N image) (blockList head size)

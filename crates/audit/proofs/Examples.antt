@@ -6,11 +6,11 @@ use lib.Count.{trailingZeros}
 use lib.ListN.{getD}
 use Rattle.span.specs.Members.{has}
 use Rattle.ctz.specs.Lists.{down}
-use Rattle.audit.specs.Check.{falls, names, further, andThen}
+use Rattle.ctz.specs.inner.Forms.{pointersWith}
 use Rattle.audit.specs.declared.Fault.the-variants.{NotBelow, MetBefore, Disagrees}
 use Rattle.audit.specs.declared.Checked.{Checked}
 use Rattle.audit.specs.declared.Checked.the-variants.{Sound, Unsound}
-use Rattle.ctz.specs.inner.Forms.{pointersWith}
+use Rattle.audit.specs.Check.{falls, names, further, andThen}
 
 -- The pointers of seven blocks: indexes 0 to 4 lie in the blocks 3, 6, 1, 5, 2. a and c are the pointers 1 and 2 of index 4, b is pointer 0 of
 -- index 3: 1, 3 and 1 where the list is sound.

@@ -8,14 +8,14 @@ use native.Mathlib.Omega.{arith}
 use borrow.Author.Tests.{lt-ltb, le-ltb, ltb-true, eq-eqb, ne-eqb, eqb-true, eqb-false}
 use lib.Dec.{eqb, ltb}
 use lib.ListN.{length, length-set, replicate, getD-replicate, length-replicate}
+use Rattle.span.specs.Members.{has, bitIn, withBitIn}
 use Rattle.ctz.specs.Lists.{down}
-use Rattle.audit.specs.Check.{falls}
+use Rattle.ctz.specs.inner.Forms.{pointersWith}
 use Rattle.audit.specs.declared.Fault.the-variants.{NotBelow, MetBefore}
 use Rattle.audit.specs.declared.Checked.{Checked}
 use Rattle.audit.specs.declared.Checked.the-variants.{Sound, Unsound}
+use Rattle.audit.specs.Check.{falls}
 use Rattle.audit.proofs.Bitmap.{bit-put}
-use Rattle.ctz.specs.inner.Forms.{pointersWith}
-use Rattle.span.specs.Members.{has, bitIn, withBitIn}
 
 module _ (ptr : ℕ → ℕ → ℕ) (N : ℕ) where
   pub falls-far : (i k : ℕ) (met : List ℕ) → N ≤ k → falls (pointersWith N ptr) i k met ≡ Unsound (NotBelow i 0)

@@ -6,18 +6,18 @@ use native.Mathlib.Nat.{le-of-dvd}
 use native.Mathlib.Numerals.{add-one}
 use native.Mathlib.Omega.{arith}
 use borrow.Author.Tests.{eq-eqb, ne-eqb}
+use Rattle.layout.proofs.Bits.{trailing-lt}
 use Rattle.hops.specs.Walk.{ctz}
 use Rattle.hops.proofs.Digits.{dvd-of-ctz}
-use Rattle.layout.proofs.Bits.{trailing-lt}
+use Rattle.card.specs.Card.{pointer}
 use Rattle.ctz.specs.Lists.{down}
-use Rattle.audit.specs.Check.{names, further, andThen}
 use Rattle.audit.specs.declared.Fault.{Fault}
 use Rattle.audit.specs.declared.Fault.the-variants.{Disagrees}
 use Rattle.audit.specs.declared.Checked.{Checked}
 use Rattle.audit.specs.declared.Checked.the-variants.{Sound, Unsound, Refused}
-use Rattle.audit.proofs.Falling.{down-first}
-use Rattle.card.specs.Card.{pointer}
+use Rattle.audit.specs.Check.{names, further, andThen}
 use Rattle.audit.specs.inner.Bounds.{holder, CleanWalk}
+use Rattle.audit.proofs.Falling.{down-first}
 
 -- a pointer that index i stores leads no further down than i, and its number is a shift of a u32
 pub stored-within : (i x : ℕ) → 0 < i → x ≤ ctz i → 2 ^ x ≤ i

@@ -4,9 +4,9 @@ use mathlib.Core.List.{List, [], _∷_}
 use Prim.Native.Nat.{ℕ, zero, suc, _^_}
 use lib.Dec.{ltb, eqb}
 use Rattle.span.specs.Members.{has}
-use Rattle.hops.specs.Walk.{ctz}
 use Rattle.layout.specs.Numbers.{nullBlock, sizeMax}
 use Rattle.layout.specs.Layout.{Index, BlockNumber, BlockList}
+use Rattle.hops.specs.Walk.{ctz}
 use Rattle.card.specs.Card.{Card, isCard, pointer}
 use Rattle.ctz.specs.Lists.{down, topOf}
 use Rattle.ctz.specs.Lookup.{Pointers, pointersIn}

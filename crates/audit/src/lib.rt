@@ -6,12 +6,12 @@ ghost use mathlib.Core.Path.{_≡_};
 ghost use mathlib.Core.List.{[]};
 ghost use lib.ListN.{length};
 ghost use Rattle.hops.specs.Walk.{ctz};
-ghost use Rattle.ctz.specs.Lists.{down};
-ghost use Rattle.audit.specs.Check.{falls, names, further, checkOf};
-ghost use Rattle.card.specs.inner.Cards.{CardFacts};
 ghost use Rattle.card.specs.Card.{cardOf, pointer};
-ghost use Rattle.audit.specs.inner.Bounds.{holder, CleanWalk, Holding};
+ghost use Rattle.card.specs.inner.Cards.{CardFacts};
+ghost use Rattle.ctz.specs.Lists.{down};
 ghost use Rattle.ctz.specs.inner.Forms.{pointersWith};
+ghost use Rattle.audit.specs.Check.{falls, names, further, checkOf};
+ghost use Rattle.audit.specs.inner.Bounds.{holder, CleanWalk, Holding};
 
 // What is wrong with a list, with its index and pointer number.
 pub enum Fault {

@@ -7,22 +7,22 @@ use native.Mathlib.Omega.{arith}
 use lib.ListN.{length, getD, take, drop}
 use lib.Seq.{sets}
 use Rattle.layout.specs.Layout.{indexAt, offsetAt, pointers}
+use Rattle.layout.specs.inner.Served.{blockList}
 use Rattle.layout.proofs.Bits.{trailing-lt}
 use Rattle.layout.proofs.Laws.{pointers-pos}
 use Rattle.layout.proofs.Places.{index-mono}
-use Rattle.ctz.specs.Lookup.{walkTo}
+use Rattle.card.specs.Card.{pointer}
+use Rattle.card.specs.inner.Cards.{cardWith}
 use Rattle.ctz.specs.declared.Found.the-variants as found
+use Rattle.ctz.specs.Lookup.{walkTo}
+use Rattle.ctz.specs.inner.Runs.{Finds}
 use Rattle.plain.specs.Reading.{gather}
+use Rattle.plain.specs.inner.Forms.{range}
 use Rattle.finding.specs.inner.Bounds.{Ranged}
-use Rattle.copies.specs.inner.Copies.{Parted, Cleared}
 use Rattle.finding.specs.inner.Runs.{Reached, Indexed, Held, Turning, Turned, clean, gotBytes}
 use Rattle.finding.proofs.Gathers.{Step, step, offset-below, clean-turn, copy-keeps, copy-turn}
 use Rattle.finding.proofs.Positions.{indexed, found-at, part-next, clean-reached}
-use Rattle.card.specs.Card.{pointer}
-use Rattle.card.specs.inner.Cards.{cardWith}
-use Rattle.layout.specs.inner.Served.{blockList}
-use Rattle.ctz.specs.inner.Runs.{Finds}
-use Rattle.plain.specs.inner.Forms.{range}
+use Rattle.copies.specs.inner.Copies.{Parted, Cleared}
 
 -- what every turn has: the list, and the buffer that came
 pub record Copying (image came : List ℕ) (B N head size pos count at top last : ℕ) (buffer blocks : List ℕ) (base i off p left to : ℕ) : Type 0 where

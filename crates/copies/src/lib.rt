@@ -7,12 +7,12 @@ ghost use mathlib.Core.Path.{_≡_};
 ghost use Prim.Native.Nat.{_+_, _*_};
 ghost use lib.ListN.{length, take, drop};
 ghost use lib.Seq.{sets};
-ghost use Rattle.plain.specs.Reading.{gather};
-ghost use Rattle.copies.specs.inner.Copies.{Roomy, Parted, Cleared, copiedOf};
-ghost use Rattle.finding.specs.inner.Runs.{gotBytes};
-ghost use Rattle.card.specs.inner.Cards.{cardWith};
 ghost use Rattle.layout.specs.inner.Served.{blockList};
+ghost use Rattle.card.specs.inner.Cards.{cardWith};
+ghost use Rattle.plain.specs.Reading.{gather};
 ghost use Rattle.plain.specs.inner.Forms.{range};
+ghost use Rattle.finding.specs.inner.Runs.{gotBytes};
+ghost use Rattle.copies.specs.inner.Copies.{Roomy, Parted, Cleared, copiedOf};
 
 // A part of block k into a buffer, from place `to` on.
 fn copy_part(b: u32, image: &[u8], k: u32, offset: u32, part: u32, to: usize, buffer: &mut [u8])

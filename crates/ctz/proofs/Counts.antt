@@ -3,21 +3,21 @@ use mathlib.Core.Path.{_≡_, ap}
 use mathlib.Core.List.{List}
 use Prim.Native.Nat.{ℕ, _+_, _-_, _^_, _≤_, _<_}
 use native.Mathlib.Omega.{arith}
-use Rattle.hops.specs.Walk.{hops}
-use Rattle.hops.proofs.Exact.{hops-here, hops-step}
-use Rattle.hops.proofs.Greedy.{pick-best}
 use Rattle.layout.specs.Layout.{indexAt}
+use Rattle.layout.specs.inner.Served.{blockList}
 use Rattle.layout.proofs.Places.{index-mono}
 use Rattle.layout.proofs.Served.{served, index-below}
-use Rattle.ctz.specs.Lookup.{walkTo}
+use Rattle.hops.specs.Walk.{hops}
+use Rattle.hops.specs.inner.Ways.{way}
+use Rattle.hops.proofs.Exact.{hops-here, hops-step}
+use Rattle.hops.proofs.Greedy.{pick-best}
+use Rattle.card.specs.inner.Cards.{cardWith}
 use Rattle.ctz.specs.declared.Found.{Found}
 use Rattle.ctz.specs.declared.Found.the-variants.{At}
+use Rattle.ctz.specs.Lookup.{walkTo}
+use Rattle.ctz.specs.inner.Bounds.{LookupAsked}
 use Rattle.ctz.proofs.Walked.{Trail, lost, here, onward}
 use Rattle.ctz.proofs.Lookups.{found-trail}
-use Rattle.hops.specs.inner.Ways.{way}
-use Rattle.card.specs.inner.Cards.{cardWith}
-use Rattle.layout.specs.inner.Served.{blockList}
-use Rattle.ctz.specs.inner.Bounds.{LookupAsked}
 
 counts : {ptr : ℕ → ℕ → ℕ} {N off tgt cur k n k′ off′ h : ℕ} {r : Found} → Trail ptr N off tgt cur k n r
     → tgt ≤ cur → cur < 2 ^ 32 → r ≡ At k′ off′ h → h ≡ n + hops (way cur tgt)

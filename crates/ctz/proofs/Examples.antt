@@ -7,13 +7,12 @@ use lib.Count.{leadingZeros, trailingZeros}
 use lib.ListN.{replicate}
 use Rattle.span.specs.Words.{wordAt}
 use Rattle.layout.specs.Layout.{pointers, capacity, start, indexAt, offsetAt}
+use Rattle.layout.specs.inner.Served.{blockList}
 use Rattle.card.specs.Card.{goodCard, pointer}
+use Rattle.card.specs.inner.Cards.{cardWith}
+use Rattle.ctz.specs.declared.Found.the-variants.{At, Damaged, Refused}
 use Rattle.ctz.specs.Lookup.{walk, walkTo, lookupOf}
 use Rattle.ctz.specs.Visits.{visitOf, visit, hand}
-use Rattle.ctz.specs.declared.Found.the-variants.{At, Damaged, Refused}
-use Rattle.card.specs.inner.Cards.{cardWith}
-use Rattle.layout.specs.inner.Served.{blockList}
-use Rattle.ctz.specs.inner.Held.{visitHeld}
 
 four : ℕ → List ℕ
 four n = n ∷ 0 ∷ 0 ∷ 0 ∷ []

@@ -7,17 +7,17 @@ use native.Mathlib.Omega.{arith}
 use borrow.Author.Tests.{lt-ltb, le-ltb, eq-eqb, ne-eqb}
 use lib.ListN.{length}
 use Rattle.layout.specs.Layout.{indexAt, offsetAt}
+use Rattle.layout.specs.inner.Served.{geometry, blockList}
 use Rattle.layout.proofs.Places.{offset-inside}
 use Rattle.layout.proofs.Served.{served, index-in}
 use Rattle.card.specs.Card.{goodCard, pointer}
-use Rattle.ctz.specs.Lookup.{walk, walkTo, lookupOf}
+use Rattle.card.specs.inner.Cards.{cardWith}
 use Rattle.ctz.specs.declared.Found.{Found}
 use Rattle.ctz.specs.declared.Found.the-variants.{At, Refused}
-use Rattle.ctz.proofs.Walked.{Trail, lost, here, onward, trail}
-use Rattle.layout.specs.inner.Served.{geometry, blockList}
+use Rattle.ctz.specs.Lookup.{walk, walkTo, lookupOf}
 use Rattle.ctz.specs.inner.Forms.{pointersWith, target, stand}
-use Rattle.card.specs.inner.Cards.{cardWith}
 use Rattle.ctz.specs.inner.Bounds.{LookupAsked}
+use Rattle.ctz.proofs.Walked.{Trail, lost, here, onward, trail}
 
 module _ (B N : ℕ) (image : List ℕ) (head size p : ℕ) where
   pub lookup-card : goodCard (geometry B N) (length image) ≡ false → Refused ≡ lookupOf (cardWith B N image) (blockList head size) p

@@ -7,12 +7,12 @@ use borrow.Author.Tests.{leb-true}
 use lib.Dec.{leb, lit≤}
 use Rattle.layout.specs.Geometry.{sizeFits, countFits, cardFits}
 use Rattle.layout.specs.Layout.{pointers, indexAt}
+use Rattle.layout.specs.inner.Served.{BlockSized, Served, geometry}
 use Rattle.layout.proofs.Laws.{Scale, pointers-pos, pointers-fit}
 use Rattle.layout.proofs.Served.{index-below, served, wide}
 use Rattle.hops.specs.Walk.{ctz}
-use Rattle.card.proofs.Cards.{block-inside}
-use Rattle.layout.specs.inner.Served.{BlockSized, Served, geometry}
 use Rattle.card.specs.inner.Cards.{CardFacts, PointerAsked}
+use Rattle.card.proofs.Cards.{block-inside}
 use Rattle.ctz.specs.inner.Bounds.{Walks}
 
 -- the pointers of every index up to that of an answered position fit

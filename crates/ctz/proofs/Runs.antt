@@ -11,14 +11,14 @@ use lib.Pow.{pow-pos}
 use lib.Seq.{getD-set-same, getD-set-other}
 use Rattle.hops.specs.Walk.{ctz}
 use Rattle.hops.proofs.Through.{pick-last}
+use Rattle.card.specs.inner.Cards.{PointerAsked}
 use Rattle.ctz.specs.declared.Found.{Found}
 use Rattle.ctz.specs.declared.Found.the-variants.{At, Damaged, Refused}
+use Rattle.ctz.specs.inner.Runs.{seek, numberOf, Finds, Leads, RunFound, RunKnown, RunGives}
 use Rattle.ctz.proofs.Room.{asked}
 use Rattle.ctz.proofs.Walked.{trail, pick-stored}
 use Rattle.ctz.proofs.Through.{through-at, through-lost}
 use Rattle.ctz.proofs.Lookups.{tells, answers}
-use Rattle.card.specs.inner.Cards.{PointerAsked}
-use Rattle.ctz.specs.inner.Runs.{seek, numberOf, Finds, Leads, RunFound, RunKnown, RunGives}
 
 -- ---- what the number of a lookup tells
 

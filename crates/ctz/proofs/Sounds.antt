@@ -2,9 +2,9 @@
 use mathlib.Core.Path.{_≡_}
 use mathlib.Core.List.{List}
 use Prim.Native.Nat.{ℕ, _-_, _^_, _≤_, _<_}
-use Rattle.hops.specs.Walk.{ctz}
 use Rattle.layout.specs.Layout.{indexAt}
 use Rattle.layout.specs.inner.Served.{blockList}
+use Rattle.hops.specs.Walk.{ctz}
 use Rattle.card.specs.Card.{pointer}
 use Rattle.card.specs.inner.Cards.{cardWith}
 use Rattle.ctz.specs.Lists.{down, Sound}

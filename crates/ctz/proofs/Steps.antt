@@ -7,14 +7,14 @@ use borrow.Author.Tests.{lt-ltb, le-ltb, eq-eqb, ne-eqb}
 use lib.ListN.{length}
 use Rattle.layout.specs.Geometry.{cardFits}
 use Rattle.layout.specs.Layout.{indexAt}
+use Rattle.layout.specs.inner.Served.{geometry, blockList}
 use Rattle.card.specs.Card.{goodCard, pointer}
-use Rattle.ctz.specs.Visits.{stepOf, traverseOf, beginOf}
+use Rattle.card.specs.inner.Cards.{cardWith}
 use Rattle.ctz.specs.declared.visit.Visit.{Visit}
 use Rattle.ctz.specs.declared.visit.Begun.the-variants as begun
 use Rattle.ctz.specs.declared.visit.Step.the-variants.{Damaged, Last, More, Refused}
-use Rattle.layout.specs.inner.Served.{geometry, blockList}
+use Rattle.ctz.specs.Visits.{stepOf, traverseOf, beginOf}
 use Rattle.ctz.specs.inner.Forms.{pointersWith}
-use Rattle.card.specs.inner.Cards.{cardWith}
 use Rattle.ctz.specs.inner.Held.{visitAt}
 
 module _ (ptr : ℕ → ℕ → ℕ) (N : ℕ) (v : Visit) where

@@ -7,15 +7,15 @@ use native.Mathlib.Omega.{arith}
 use lib.Dec.{ltb}
 use lib.Pow.{pow-pos}
 use Rattle.hops.specs.Walk.{ctz, jump}
+use Rattle.hops.specs.inner.Ways.{way}
 use Rattle.hops.proofs.Greedy.{pick-best}
 use Rattle.hops.proofs.Through.{pick-through, pick-last, pick-next}
-use Rattle.ctz.specs.Lookup.{walk}
 use Rattle.ctz.specs.declared.Found.{Found}
 use Rattle.ctz.specs.declared.Found.the-variants.{At, Damaged, Refused}
-use Rattle.ctz.proofs.Walked.{walk-damaged, walk-at, walk-hop, Trail, lost, here, onward, trail}
-use Rattle.hops.specs.inner.Ways.{way}
+use Rattle.ctz.specs.Lookup.{walk}
 use Rattle.ctz.specs.inner.Forms.{pointersWith, target, stand}
 use Rattle.ctz.specs.inner.Runs.{seek}
+use Rattle.ctz.proofs.Walked.{walk-damaged, walk-at, walk-hop, Trail, lost, here, onward, trail}
 
 -- ---- the offset
 

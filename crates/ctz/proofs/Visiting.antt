@@ -8,18 +8,18 @@ use borrow.Author.Tests.{ltb-true, eqb-true, eqb-false, eq-eqb, ne-eqb}
 use lib.Dec.{ltb, eqb}
 use Rattle.layout.specs.Geometry.{cardFits}
 use Rattle.layout.specs.Layout.{indexAt}
-use Rattle.ctz.specs.Visits.{stepOf, onBelow, Visited, hand, visit, visitOf, beginOf}
+use Rattle.layout.specs.inner.Served.{geometry, blockList}
+use Rattle.card.specs.Card.{pointer}
+use Rattle.card.specs.inner.Cards.{cardWith}
 use Rattle.ctz.specs.declared.visit.Visit.{Visit}
 use Rattle.ctz.specs.declared.visit.Begun.{Begun}
 use Rattle.ctz.specs.declared.visit.Begun.the-variants as begun
 use Rattle.ctz.specs.declared.visit.Step.{Step}
 use Rattle.ctz.specs.declared.visit.Step.the-variants.{Damaged, Last, More, Refused}
-use Rattle.ctz.proofs.Steps.{begin-empty, begin-at}
-use Rattle.layout.specs.inner.Served.{geometry, blockList}
-use Rattle.card.specs.Card.{pointer}
+use Rattle.ctz.specs.Visits.{stepOf, onBelow, Visited, hand, visit, visitOf, beginOf}
 use Rattle.ctz.specs.inner.Forms.{pointersWith}
-use Rattle.card.specs.inner.Cards.{cardWith}
 use Rattle.ctz.specs.inner.Held.{readsBy, reads-two, nextBlock, nextAfter, nextVisit, visitHeld, visitAt, handOn}
+use Rattle.ctz.proofs.Steps.{begin-empty, begin-at}
 
 -- a step goes on where the fields say
 below-next : (ptr : ℕ → ℕ → ℕ) (w : Visit) → onBelow ptr (w .held) w (eqb (w .index % 2) 1) ≡ nextVisit ptr w

@@ -8,11 +8,11 @@ use borrow.Author.Tests.{lt-ltb, le-ltb, ltb-true, ltb-false}
 use lib.Dec.{ltb}
 use lib.Pow.{pow-pos}
 use Rattle.hops.specs.Walk.{ctz, log2, jump}
+use Rattle.hops.specs.inner.Ways.{way}
 use Rattle.hops.proofs.Greedy.{pick-best}
-use Rattle.ctz.specs.Lookup.{walk}
 use Rattle.ctz.specs.declared.Found.{Found}
 use Rattle.ctz.specs.declared.Found.the-variants.{At, Damaged}
-use Rattle.hops.specs.inner.Ways.{way}
+use Rattle.ctz.specs.Lookup.{walk}
 use Rattle.ctz.specs.inner.Forms.{pointersWith, target, stand}
 
 module _ (f : ℕ) (ptr : ℕ → ℕ → ℕ) (N off tgt cur k hops : ℕ) where

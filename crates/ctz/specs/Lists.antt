@@ -2,9 +2,9 @@
 use mathlib.Core.Path.{_≡_}
 use mathlib.Core.List.{List}
 use Prim.Native.Nat.{ℕ, zero, suc, _-_, _^_, _≤_, _<_}
-use Rattle.hops.specs.Walk.{ctz}
 use Rattle.layout.specs.Numbers.{nullBlock}
 use Rattle.layout.specs.Layout.{BlockSize, Index, BlockNumber, BlockList, indexAt}
+use Rattle.hops.specs.Walk.{ctz}
 use Rattle.card.specs.Card.{Card, pointer}
 
 -- the number that lies d indexes below block k, by pointer 0; ptr k x is the number that block k stores as its pointer x

@@ -2,13 +2,13 @@
 use mathlib.Core.Bool.{true, false}
 use Prim.Native.Nat.{ℕ, zero, suc, _-_, _^_}
 use lib.Dec.{ltb, eqb}
-use Rattle.hops.specs.Walk.{jump}
 use Rattle.layout.specs.Numbers.{nullBlock, sizeMax}
 use Rattle.layout.specs.Layout.{Index, Position, BlockNumber, BlockList, indexAt, offsetAt}
+use Rattle.hops.specs.Walk.{jump}
 use Rattle.card.specs.Card.{Card, isCard, pointer}
-use Rattle.ctz.specs.Lists.{topOf}
 use Rattle.ctz.specs.declared.Found.{Found}
 use Rattle.ctz.specs.declared.Found.the-variants.{At, Damaged, Refused}
+use Rattle.ctz.specs.Lists.{topOf}
 
 -- what a walk reads of a card: how many blocks there are, and the number that block k stores as its pointer x
 pub record Pointers : Type 0 where

@@ -3,18 +3,18 @@ use mathlib.Core.Bool.{Bool, true, false}
 use mathlib.Core.List.{List, [], _∷_}
 use Prim.Native.Nat.{ℕ, zero, suc, _-_, _%_}
 use lib.Dec.{ltb, eqb}
-use Rattle.layout.specs.Numbers.{sizeMax}
 use Rattle.layout.specs.declared.Geometry.{Geometry}
+use Rattle.layout.specs.Numbers.{sizeMax}
 use Rattle.layout.specs.Geometry.{cardFits}
 use Rattle.layout.specs.Layout.{Index, BlockNumber, BlockList}
 use Rattle.card.specs.Card.{Card, isCard}
-use Rattle.ctz.specs.Lists.{topOf}
-use Rattle.ctz.specs.Lookup.{Pointers, pointersIn}
 use Rattle.ctz.specs.declared.visit.Visit.{Visit}
 use Rattle.ctz.specs.declared.visit.Begun.{Begun}
 use Rattle.ctz.specs.declared.visit.Begun.the-variants as begun
 use Rattle.ctz.specs.declared.visit.Step.{Step}
 use Rattle.ctz.specs.declared.visit.Step.the-variants as step
+use Rattle.ctz.specs.Lists.{topOf}
+use Rattle.ctz.specs.Lookup.{Pointers, pointersIn}
 
 -- the numbers that a visit hands over, in order, and whether it came to its end (false: -84)
 pub record Visited : Type 0 where

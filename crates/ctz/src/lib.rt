@@ -6,13 +6,13 @@ use layout::Geometry;
 ghost use mathlib.Core.Path.{_≡_};
 ghost use Prim.Native.Nat.{suc, _^_, _≤_, _<_};
 ghost use lib.ListN.{length};
-ghost use Rattle.hops.specs.Walk.{jump};
-ghost use Rattle.ctz.specs.Lookup.{walk, walkTo, lookupOf};
-ghost use Rattle.card.specs.Card.{cardOf, pointer};
-ghost use Rattle.hops.specs.inner.Ways.{way};
-ghost use Rattle.ctz.specs.inner.Forms.{pointersWith, target, stand};
-ghost use Rattle.card.specs.inner.Cards.{cardWith};
 ghost use Rattle.layout.specs.inner.Served.{blockList};
+ghost use Rattle.hops.specs.Walk.{jump};
+ghost use Rattle.hops.specs.inner.Ways.{way};
+ghost use Rattle.card.specs.Card.{cardOf, pointer};
+ghost use Rattle.card.specs.inner.Cards.{cardWith};
+ghost use Rattle.ctz.specs.Lookup.{walk, walkTo, lookupOf};
+ghost use Rattle.ctz.specs.inner.Forms.{pointersWith, target, stand};
 ghost use Rattle.ctz.specs.inner.Bounds.{Walks, LookupAsked};
 
 // Where a position lies: its block, the offset in it, and how many pointers were followed to it.

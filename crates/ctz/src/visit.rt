@@ -3,9 +3,9 @@ use layout::Geometry;
 use layout::Made;
 ghost use mathlib.Core.Path.{_≡_};
 ghost use lib.ListN.{length};
-ghost use Rattle.ctz.specs.Visits.{beginOf, stepOf, traverseOf};
-ghost use Rattle.card.specs.inner.Cards.{CardFacts};
 ghost use Rattle.card.specs.Card.{cardOf, pointer};
+ghost use Rattle.card.specs.inner.Cards.{CardFacts};
+ghost use Rattle.ctz.specs.Visits.{beginOf, stepOf, traverseOf};
 ghost use Rattle.ctz.specs.inner.Forms.{pointersWith};
 
 // The index to hand over next and its block number; and the number of the index below it, where that was read already.

@@ -6,13 +6,18 @@ use mathlib.Core.List.{List, [], _∷_}
 use Prim.Native.Nat.{ℕ, zero, suc, _+_, _^_, _≤_, _<_}
 use native.Mathlib.Omega.{arith}
 use lib.ListN.{length, getD, set}
+use Rattle.span.specs.Members.{has}
 use Rattle.layout.specs.Layout.{start, indexAt}
+use Rattle.layout.specs.inner.Served.{geometry, blockList}
 use Rattle.card.specs.Card.{goodCard}
+use Rattle.card.specs.inner.Cards.{cardWith}
 use Rattle.ctz.specs.Lists.{SoundList, blockAt}
 use Rattle.ctz.specs.Visits.{visitOf}
+use Rattle.plain.specs.inner.Forms.{GoodList}
+use Rattle.plain.proofs.Indexes.{card-of}
+use Rattle.plain.proofs.Same.{SameBlocks}
 use Rattle.files.specs.declared.Entry.{Entry}
 use Rattle.files.proofs.Replaced.{altered}
-use Rattle.plain.proofs.Indexes.{card-of}
 use Rattle.window.specs.declared.Lookahead.{Lookahead}
 use Rattle.window.specs.Scan.{Seen, listedOf}
 use Rattle.window.proofs.Cases.{no-both}
@@ -20,18 +25,13 @@ use Rattle.windows.proofs.Views.{Became, CleanWindow}
 use Rattle.windows.proofs.Has.{else-false}
 use Rattle.windows.proofs.Listed.{became-set, unseen}
 use Rattle.alloc.specs.Visits.{seenOf, visitsOf}
+use Rattle.trials.specs.Loop.{WriteOut}
 use Rattle.old_list.specs.Write.{kept, jobOf}
 use Rattle.writes.proofs.Holds.{either}
 use Rattle.writes.proofs.Index.{in-block, start-lt}
 use Rattle.demands.specs.Came.{Among, here, there}
 use Rattle.demands.proofs.Tables.{listedBy, visit-told, SoundFiles, none, one, of-sounds, same-sounds, same-visits}
 use Rattle.demands.proofs.Store.{Before, After, Stored, newSize}
-use Rattle.span.specs.Members.{has}
-use Rattle.trials.specs.Loop.{WriteOut}
-use Rattle.layout.specs.inner.Served.{geometry, blockList}
-use Rattle.card.specs.inner.Cards.{cardWith}
-use Rattle.plain.specs.inner.Forms.{GoodList}
-use Rattle.plain.proofs.Same.{SameBlocks}
 
 -- e is the file at place m
 pub data AtPlace (e : Entry) : ℕ → List Entry → Type 0 where

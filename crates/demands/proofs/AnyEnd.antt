@@ -8,11 +8,11 @@ use Rattle.files.specs.declared.change.Change.{Change}
 use Rattle.files.specs.declared.change.Change.the-variants as change
 use Rattle.files.specs.Change.{changed}
 use Rattle.files.proofs.Kept.{create-cases, remove-cases}
+use Rattle.grow.specs.Setting.{Setting, State}
 use Rattle.store.specs.declared.Outcome.the-variants as outcome
 use Rattle.store.specs.Store.{StoreOut}
 use Rattle.store.proofs.Refusals as refusals
 use Rattle.demands.specs.Calls.{Call, create, remove, write, truncate, look, Left, changedIn, storedIn, after}
-use Rattle.grow.specs.Setting.{Setting, State}
 
 -- accepted; refused, with all as it came; or -28 or -84, with the table as it came
 pub data AnyEnd (s : State) (o : Left) : Type 0 where

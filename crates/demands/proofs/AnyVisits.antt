@@ -8,9 +8,14 @@ use native.Mathlib.Omega.{arith}
 use borrow.Author.Tests.{ltb-true, eqb-true, eqb-false}
 use lib.Dec.{ltb, eqb}
 use lib.ListN.{take}
+use Rattle.span.specs.Members.{has}
 use Rattle.layout.specs.Layout.{indexAt}
-use Rattle.ctz.proofs.Visiting.{visit-empty, visit-begins}
+use Rattle.layout.specs.inner.Served.{BlockSized, blockList}
+use Rattle.card.specs.Card.{pointer}
+use Rattle.card.specs.inner.Cards.{cardWith}
 use Rattle.ctz.specs.Visits.{Visited, visitOf}
+use Rattle.ctz.specs.inner.Held.{visitHeld, reads-two, nextBlock, nextAfter, handOn}
+use Rattle.ctz.proofs.Visiting.{visit-empty, visit-begins}
 use Rattle.files.specs.declared.Entry.{Entry}
 use Rattle.window.specs.Scan.{Seen, seenAll, listedOf}
 use Rattle.window.proofs.Cases.{no-both}
@@ -18,17 +23,12 @@ use Rattle.windows.proofs.Views.{Shows, Below}
 use Rattle.windows.proofs.Has.{has-none, has-head, has-tail, has-cases, has-append, below-none, below-more, below-append}
 use Rattle.windows.proofs.Listed.{AllBelow, AllOk, lists, tells}
 use Rattle.alloc.specs.Visits.{seenOf, visitsOf, seenFrom}
-use Rattle.writes.proofs.Cells.{pointer-same}
 use Rattle.grow.specs.Setting.{Setting}
+use Rattle.writes.proofs.Cells.{pointer-same}
+use Rattle.writes.proofs.Allocators.{Stays}
 use Rattle.demands.specs.Space.{readBy}
 use Rattle.demands.proofs.Tables.{listedBy, has-left, has-right}
 use Rattle.demands.proofs.Windows.{Listed}
-use Rattle.span.specs.Members.{has}
-use Rattle.writes.proofs.Allocators.{Stays}
-use Rattle.layout.specs.inner.Served.{BlockSized, blockList}
-use Rattle.card.specs.Card.{pointer}
-use Rattle.card.specs.inner.Cards.{cardWith}
-use Rattle.ctz.specs.inner.Held.{visitHeld, reads-two, nextBlock, nextAfter, handOn}
 
 -- ---- one visit
 

@@ -3,12 +3,17 @@ use mathlib.Core.Path.{refl, sym, subst}
 use mathlib.Core.Bool.{Bool, _&&_}
 use mathlib.Core.List.{List}
 use Prim.Native.Nat.{ℕ}
+use Rattle.card.specs.inner.Cards.{cardWith}
 use Rattle.health.specs.Health.{healthOk}
+use Rattle.files.specs.Table.{held}
 use Rattle.window.specs.Value.{lookaheadFits}
+use Rattle.window.specs.inner.Facts.{ValidWindow}
 use Rattle.window.proofs.Kept.{fresh-valid}
 use Rattle.windows.proofs.Came.{fresh-clean}
-use Rattle.files.specs.Table.{held}
+use Rattle.windows.proofs.Views.{CleanWindow}
 use Rattle.alloc.specs.Visits.{listedIn}
+use Rattle.grow.specs.Setting.{State}
+use Rattle.grow.specs.inner.Setting.{setting}
 use Rattle.demands.specs.Calls.{Shape, Call, create, remove, write, truncate, look, Left, after}
 use Rattle.demands.specs.Came.{Sounds, Came, fresh, called}
 use Rattle.demands.proofs.Tables.{listedBy}
@@ -17,11 +22,6 @@ use Rattle.demands.proofs.Ends.{Ends, accepted, refused, short, ends-sa
 use Rattle.demands.proofs.Steps.{create-step, remove-step}
 use Rattle.demands.proofs.Puts.{write-step}
 use Rattle.demands.proofs.Resizes.{truncate-step}
-use Rattle.grow.specs.Setting.{State}
-use Rattle.window.specs.inner.Facts.{ValidWindow}
-use Rattle.windows.proofs.Views.{CleanWindow}
-use Rattle.card.specs.inner.Cards.{cardWith}
-use Rattle.grow.specs.inner.Setting.{setting}
 
 -- each call
 pub step : {B N l : ℕ} {s : State} → Held B N l s → (health : List ℕ) (c : Call)

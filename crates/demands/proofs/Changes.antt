@@ -6,9 +6,13 @@ use Prim.Native.Nat.{ℕ}
 use native.Mathlib.Omega.{arith}
 use lib.Dec.{ltb, eqb}
 use lib.ListN.{set}
+use Rattle.layout.specs.Numbers.{nullBlock}
+use Rattle.layout.specs.inner.Served.{blockList}
+use Rattle.card.specs.inner.Cards.{cardWith}
 use Rattle.ctz.specs.Lists.{SoundList}
 use Rattle.ctz.specs.Visits.{Visited}
 use Rattle.ctz.proofs.Visiting.{visit-empty}
+use Rattle.plain.specs.inner.Forms.{GoodList}
 use Rattle.files.specs.declared.Entry.{Entry}
 use Rattle.files.specs.Change.{emptyFile, insertOf, withoutOf}
 use Rattle.files.proofs.Replaced.{altered}
@@ -22,10 +26,6 @@ use Rattle.alloc.specs.Visits.{seenOf, visitsOf}
 use Rattle.demands.proofs.Tables.{listedBy, SoundFiles, none, one}
 use Rattle.demands.proofs.Store.{Before}
 use Rattle.demands.proofs.Again.{sounds-set, visits-set}
-use Rattle.layout.specs.Numbers.{nullBlock}
-use Rattle.card.specs.inner.Cards.{cardWith}
-use Rattle.layout.specs.inner.Served.{blockList}
-use Rattle.plain.specs.inner.Forms.{GoodList}
 
 module _ (B N l : ℕ) (w : Lookahead) (img : List ℕ) where
   -- a table of sound lists that lists no more than another, with its window

@@ -7,14 +7,14 @@ use Prim.Native.Nat.{ℕ}
 use borrow.Author.Tests.{eq-eqb, ne-eqb, eqb-true}
 use lib.Dec.{ltb, eqb}
 use lib.ListN.{set}
+use Rattle.layout.specs.inner.Served.{blockList}
+use Rattle.plain.specs.Bytes.{span, bytes}
 use Rattle.files.specs.declared.Entry.{Entry}
 use Rattle.files.specs.Change.{emptyFile, insertOf, withoutOf}
-use Rattle.plain.specs.Bytes.{span, bytes}
 use Rattle.demands.specs.Came.{Among, here, there}
 use Rattle.demands.specs.Plain.{PlainFile, plainCreate, plainRemove, plainChange, hasFile, fileBytes}
 use Rattle.demands.specs.Runs.{fileIn}
 use Rattle.demands.proofs.Named.{Placed, first, next, Unnamed, none, one}
-use Rattle.layout.specs.inner.Served.{blockList}
 
 -- how these files read
 abbrev pub Plainly : ℕ → List ℕ → List Entry → List PlainFile

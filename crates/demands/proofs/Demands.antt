@@ -5,10 +5,12 @@ use mathlib.Core.List.{List}
 use Prim.Native.Nat.{ℕ}
 use native.Mathlib.Omega.{arith}
 use lib.IntN.{ℤ, pos, negsuc}
+use Rattle.layout.specs.Numbers.{accepted, no-space, damaged-card}
+use Rattle.layout.specs.inner.Served.{blockList}
+use Rattle.plain.specs.Bytes.{bytes}
 use Rattle.files.specs.declared.Table.{Table}
 use Rattle.files.specs.Table.{held}
-use Rattle.plain.specs.Bytes.{bytes}
-use Rattle.layout.specs.Numbers.{accepted, no-space, damaged-card}
+use Rattle.grow.specs.Setting.{Setting, State}
 use Rattle.demands.specs.Calls.{Call, Left, after, Shape, under}
 use Rattle.demands.specs.Came.{Sounds, Came, called}
 use Rattle.demands.specs.Plain.{plainCode}
@@ -18,8 +20,6 @@ use Rattle.demands.proofs.Contents.{Plainly, Read, same-files}
 use Rattle.demands.proofs.Ends.{Ends, accepted as accepted-as, refused, short}
 use Rattle.demands.proofs.Came.{step, came-held}
 use Rattle.demands.proofs.AnyEnd.{AnyEnd, done, unchanged, stopped, any-end}
-use Rattle.grow.specs.Setting.{Setting, State}
-use Rattle.layout.specs.inner.Served.{blockList}
 
 -- 0 is no refusal number
 no-refusal : {k : ℕ} {z : ℤ} → z ≡ pos 0 → z ≡ negsuc k → ⊥

@@ -5,14 +5,18 @@ use mathlib.Core.List.{List}
 use Prim.Native.Nat.{ℕ, _<_}
 use lib.IntN.{pos, negsuc}
 use lib.ListN.{set}
+use Rattle.layout.specs.inner.Served.{blockList}
+use Rattle.plain.specs.Bytes.{bytes}
 use Rattle.files.specs.declared.Entry.{Entry}
 use Rattle.files.specs.declared.Table.{Table}
 use Rattle.files.specs.Table.{held, file}
+use Rattle.files.specs.Change.{withList}
 use Rattle.files.proofs.Replaced.{altered}
-use Rattle.plain.specs.Bytes.{bytes}
 use Rattle.window.specs.declared.Lookahead.{Lookahead}
+use Rattle.grow.specs.Setting.{State}
 use Rattle.store.specs.declared.Outcome.the-variants as outcome
 use Rattle.store.specs.Store.{left}
+use Rattle.store.specs.inner.Calls.{askWrite, askTruncate}
 use Rattle.demands.specs.Calls.{Call, write, truncate, Left, storedIn}
 use Rattle.demands.specs.Came.{Among}
 use Rattle.demands.specs.Plain.{plainAfter, plainCode, plainChange, grows}
@@ -22,10 +26,6 @@ use Rattle.demands.proofs.Store.{Before}
 use Rattle.demands.proofs.Named.{Placed}
 use Rattle.demands.proofs.Contents.{Read, change-files, set-kept, set-from}
 use Rattle.demands.proofs.Kept.{Held, held-put, put-held}
-use Rattle.grow.specs.Setting.{State}
-use Rattle.layout.specs.inner.Served.{blockList}
-use Rattle.files.specs.Change.{withList}
-use Rattle.store.specs.inner.Calls.{askWrite, askTruncate}
 
 -- Accepted, as the plain files accept it; refused, as they refuse it, and all as it came; or -28, which they cannot tell: the table as it came.
 pub data Ends (B N l : ℕ) (fits : Bool) (c : Call) (s : State) (o : Left) : Type 0 where

@@ -6,7 +6,11 @@ use Prim.Native.Nat.{ℕ, suc, _+_, _-_, _%_, _^_, _≤_, _<_}
 use native.Mathlib.Nat.{mod-lt}
 use native.Mathlib.Omega.{arith}
 use lib.ListN.{length, length-replicate}
+use Rattle.span.specs.Members.{has}
+use Rattle.layout.specs.Numbers.{sizeMax, no-space, damaged-card}
+use Rattle.layout.specs.inner.Served.{BlockSized, geometry}
 use Rattle.card.specs.Card.{goodCard}
+use Rattle.card.specs.inner.Cards.{CardFacts, cardWith}
 use Rattle.card.proofs.Cards.{card}
 use Rattle.files.specs.declared.Entry.{Entry}
 use Rattle.files.specs.declared.Table.{Table}
@@ -14,40 +18,36 @@ use Rattle.files.specs.declared.Found.the-variants as found
 use Rattle.files.specs.Table.{held, file, findOf}
 use Rattle.window.specs.declared.Lookahead.{Lookahead}
 use Rattle.window.specs.Value.{freshOf, checkpointOf}
+use Rattle.window.specs.inner.Facts.{ValidWindow, GoodScope, scope}
 use Rattle.window.proofs.Valid.{looks, tested-valid, valid-tested}
+use Rattle.windows.specs.Space.{markedIn}
 use Rattle.windows.proofs.Views.{Shows, CleanWindow}
 use Rattle.windows.proofs.Came.{empty-clean}
 use Rattle.windows.proofs.Rotate.{whole-circle}
 use Rattle.windows.proofs.Space.{knows, same-used, none-left, clean-used, listed-used}
 use Rattle.alloc.specs.Visits.{seenIn, listedIn, visitsOf}
+use Rattle.trials.specs.Loop.{Writing, Written, NoRoom, Corrupt, WriteOut}
+use Rattle.grow.specs.Setting.{Setting, State, testedOf, tested}
+use Rattle.grow.specs.inner.Extend.{windowAlloc}
+use Rattle.grow.specs.inner.Setting.{setting}
 use Rattle.old_list.specs.Write.{zeros, new, kept, jobOf}
+use Rattle.old_list.specs.inner.Lookups.{lookIn}
+use Rattle.new_list.specs.inner.Put.{puts}
 use Rattle.store.specs.Store.{written, writtenOf}
 use Rattle.store.specs.Asked.{WriteAsked, TruncateAsked}
+use Rattle.store.specs.inner.Calls.{askWrite}
 use Rattle.store.proofs.Tested.{tests, file-most}
 use Rattle.store.proofs.Calls as calls
 use Rattle.writes.proofs.Counting.{some-need, Counted, corrupt, done, counted, full as no-room}
+use Rattle.writes.proofs.Allocators.{Stays}
+use Rattle.writes.proofs.Widths.{need}
 use Rattle.demands.specs.Calls.{write, truncate, storedIn, after, Left}
 use Rattle.demands.specs.Came.{Came}
 use Rattle.demands.specs.Space.{goodBlock, blocksFor, grownBy, listedBlocks, goodFree, usedIn, goodUsable, goodUnmarked, readBy, Apart, Free, Exactly, Spent, Settled}
 use Rattle.demands.proofs.Windows.{Used, Knowing, UsedUp, goodsLeft, counter}
 use Rattle.demands.proofs.AnyVisits.{all-below, seen-again, read-listed, shows, listed-below}
 use Rattle.demands.proofs.Came.{came-clean}
-use Rattle.layout.specs.Numbers.{sizeMax, no-space, damaged-card}
-use Rattle.span.specs.Members.{has}
-use Rattle.writes.proofs.Allocators.{Stays}
-use Rattle.writes.proofs.Widths.{need}
-use Rattle.grow.specs.Setting.{Setting, State, testedOf, tested}
 use Rattle.demands.proofs.Records.{shape}
-use Rattle.grow.specs.inner.Extend.{windowAlloc}
-use Rattle.trials.specs.Loop.{Writing, Written, NoRoom, Corrupt, WriteOut}
-use Rattle.layout.specs.inner.Served.{BlockSized, geometry}
-use Rattle.card.specs.inner.Cards.{CardFacts, cardWith}
-use Rattle.window.specs.inner.Facts.{ValidWindow, GoodScope, scope}
-use Rattle.windows.specs.Space.{markedIn}
-use Rattle.grow.specs.inner.Setting.{setting}
-use Rattle.store.specs.inner.Calls.{askWrite}
-use Rattle.old_list.specs.inner.Lookups.{lookIn}
-use Rattle.new_list.specs.inner.Put.{puts}
 
 -- what a write of at least one byte to an entry answers where it is not -84
 pub record Decided (B N l needed free : ℕ) (o : WriteOut Lookahead) : Type 0 where

@@ -3,10 +3,10 @@ use mathlib.Core.Path.{_≡_, refl}
 use mathlib.Core.Bool.{true, false}
 use mathlib.Core.List.{[], _∷_}
 use lib.IntN.{pos, negsuc}
+use Rattle.store.specs.inner.Calls.{askWrite, askTruncate}
 use Rattle.demands.specs.Calls.{Call, create, remove, write, truncate}
 use Rattle.demands.specs.Plain.{hasFile, fileBytes, plainCreate, plainRemove, plainChange, plainWrite, meets}
 use Rattle.demands.specs.Runs.{plainRuns, PlainCall}
-use Rattle.store.specs.inner.Calls.{askWrite, askTruncate}
 
 abbrev fine : Call → PlainCall
 fine c = record { fits = true; short = false; call = c }

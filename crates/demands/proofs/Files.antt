@@ -3,14 +3,14 @@ use mathlib.Core.Path.{_≡_, sym, _∙_}
 use mathlib.Core.List.{List}
 use Prim.Native.Nat.{ℕ, _<_}
 use lib.Seq.{ext-getD}
+use Rattle.layout.specs.inner.Served.{blockList}
+use Rattle.card.specs.inner.Cards.{cardWith}
 use Rattle.ctz.specs.Lists.{SoundList, blockAt}
 use Rattle.plain.specs.Bytes as plain
+use Rattle.plain.specs.inner.Forms.{GoodList}
 use Rattle.plain.proofs.Files as files
 use Rattle.writes.proofs.Holds.{bytes-length, bytes-at}
 use Rattle.writes.proofs.Cells.{cell, byteBy, bytesBy}
-use Rattle.card.specs.inner.Cards.{cardWith}
-use Rattle.layout.specs.inner.Served.{blockList}
-use Rattle.plain.specs.inner.Forms.{GoodList}
 
 -- both are the same list of bytes
 pub bytes-is : {B N : ℕ} {img : List ℕ} {head s : ℕ} → GoodList B N img s → SoundList (cardWith B N img) (blockList head s)

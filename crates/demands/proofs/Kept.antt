@@ -8,35 +8,35 @@ use native.Mathlib.Omega.{arith}
 use lib.ListN.{length, set}
 use lib.Seq.{take-set-lt}
 use Rattle.layout.specs.Layout.{indexAt}
+use Rattle.layout.specs.Numbers.{headMax}
+use Rattle.layout.specs.inner.Served.{blockList}
+use Rattle.card.specs.Card.{pointer}
+use Rattle.card.specs.inner.Cards.{cardWith}
 use Rattle.card.proofs.Cards.{card}
-use Rattle.ctz.specs.Lists.{SoundList, down}
 use Rattle.health.specs.Health.{healthOk}
+use Rattle.ctz.specs.Lists.{SoundList, down}
+use Rattle.ctz.proofs.Sounds.{at}
+use Rattle.plain.specs.inner.Forms.{GoodList}
 use Rattle.files.specs.declared.Entry.{Entry}
 use Rattle.files.specs.declared.Table.{Table}
 use Rattle.files.specs.Table.{held, file, filesOk, tableOk}
+use Rattle.files.specs.Change.{withList}
 use Rattle.files.proofs.Laws.{first-good, rest-ok, held-ok}
 use Rattle.files.proofs.Tests.{both-right}
 use Rattle.files.proofs.Replaced.{Fitting, altered, put-ok}
 use Rattle.window.specs.declared.Lookahead.{Lookahead}
 use Rattle.window.specs.Value.{lookaheadFits}
+use Rattle.window.specs.inner.Facts.{ValidWindow, GoodScope}
 use Rattle.window.proofs.Valid.{valid-tested, looks}
+use Rattle.windows.proofs.Views.{CleanWindow}
+use Rattle.grow.specs.Setting.{State, testedOf}
+use Rattle.grow.specs.inner.Setting.{setting}
 use Rattle.demands.specs.Came.{Among, here, there, Sounds}
 use Rattle.demands.proofs.Tables.{listedBy, SoundFiles, none, one, of-sounds}
 use Rattle.demands.proofs.Store.{Before}
 use Rattle.demands.proofs.Again.{AtPlace}
 use Rattle.demands.proofs.Named.{Placed, first, next, placed-at}
-use Rattle.layout.specs.Numbers.{headMax}
-use Rattle.grow.specs.Setting.{State, testedOf}
 use Rattle.demands.proofs.Records.{shape}
-use Rattle.card.specs.Card.{pointer}
-use Rattle.card.specs.inner.Cards.{cardWith}
-use Rattle.layout.specs.inner.Served.{blockList}
-use Rattle.ctz.proofs.Sounds.{at}
-use Rattle.plain.specs.inner.Forms.{GoodList}
-use Rattle.files.specs.Change.{withList}
-use Rattle.window.specs.inner.Facts.{ValidWindow, GoodScope}
-use Rattle.windows.proofs.Views.{CleanWindow}
-use Rattle.grow.specs.inner.Setting.{setting}
 
 -- What holds before each store call on sound lists, and after it.
 pub record Held (B N l : ℕ) (s : State) : Type 0 where

@@ -7,7 +7,13 @@ use native.Mathlib.Omega.{arith}
 use borrow.Author.Tests.{lt-ltb}
 use lib.ListN.{length, take, drop}
 use Rattle.layout.specs.Layout.{offsetAt}
+use Rattle.layout.specs.Numbers.{sizeMax, accepted}
+use Rattle.layout.specs.inner.Served.{blockList}
+use Rattle.card.specs.inner.Cards.{cardWith}
 use Rattle.ctz.specs.Lists.{SoundList}
+use Rattle.plain.specs.Bytes.{bytes}
+use Rattle.plain.specs.inner.Forms.{GoodList}
+use Rattle.plain.proofs.Files.{bytes-length}
 use Rattle.files.specs.declared.Table.{Table}
 use Rattle.files.specs.declared.Found.{Found}
 use Rattle.files.specs.declared.Found.the-variants as found
@@ -17,10 +23,10 @@ use Rattle.files.specs.Table.{held, file, findOf, sizeOf}
 use Rattle.files.specs.Seek.{whenceOf, seekOf, Seek}
 use Rattle.files.proofs.Cases as cases
 use Rattle.files.proofs.Tests.{ltb-cases, leb-cases}
-use Rattle.plain.specs.Bytes.{bytes}
-use Rattle.plain.proofs.Files.{bytes-length}
+use Rattle.grow.specs.Setting.{State}
 use Rattle.reading.specs.declared.Reading.the-variants as reading
 use Rattle.reading.specs.Calls.{askedOf, readOf, stretchOf, stretchBytes, placedCode, FilePosition}
+use Rattle.reading.specs.inner.Bounds.{filePosition}
 use Rattle.reading.proofs.Plain as reads
 use Rattle.demands.specs.Came.{Sounds}
 use Rattle.demands.specs.Calls.{Shape}
@@ -32,12 +38,6 @@ use Rattle.demands.proofs.Again.{among-at}
 use Rattle.demands.proofs.Named.{Placed, placed-at, Unnamed, FindView, high, missing, at, find-view, meets-high, meets-none, meets-far, meets-file}
 use Rattle.demands.proofs.Contents.{placed-holds, unnamed-holds, placed-bytes}
 use Rattle.demands.proofs.Kept.{sound-files}
-use Rattle.layout.specs.Numbers.{sizeMax, accepted}
-use Rattle.grow.specs.Setting.{State}
-use Rattle.card.specs.inner.Cards.{cardWith}
-use Rattle.layout.specs.inner.Served.{blockList}
-use Rattle.plain.specs.inner.Forms.{GoodList}
-use Rattle.reading.specs.inner.Bounds.{filePosition}
 
 module _ {g : Shape} {s : State} (sounds : Sounds g s) where
   abbrev B : ℕ

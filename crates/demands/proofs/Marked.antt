@@ -7,29 +7,29 @@ use lib.Count.{trailingZeros, leadingZeros}
 use lib.IntN.{pos, negsuc}
 use lib.ListN.{replicate}
 use Rattle.span.specs.Words.{bytes32, wordAt}
+use Rattle.span.specs.Members.{has}
 use Rattle.layout.specs.Layout.{pointers, capacity, start, indexAt, offsetAt}
 use Rattle.card.specs.Card.{goodCard, pointer}
+use Rattle.health.specs.Health.{eachValid, healthOk}
+use Rattle.device.specs.Device.{stored, wiped}
 use Rattle.ctz.specs.Lookup.{walk, walkTo}
 use Rattle.ctz.specs.Visits.{visitOf, visit, hand}
-use Rattle.device.specs.Device.{stored, wiped}
-use Rattle.health.specs.Health.{eachValid, healthOk}
 use Rattle.files.specs.declared.Entry.{Entry}
 use Rattle.files.specs.Table.{searchOf, findOf, headOk, entryOk, filesOk, tableOf, tableOk}
 use Rattle.window.specs.Allocate.{allocBy, allocOf, skip, takeOf}
 use Rattle.window.specs.Scan.{markAll, markMap, cleared, listedOf, scanOf, seenAll}
 use Rattle.window.specs.Value.{lookaheadFits, validOf}
+use Rattle.windows.specs.Space.{usedFor, tally}
 use Rattle.alloc.specs.Visits.{seenIn, listedIn}
-use Rattle.old_list.specs.Write.{ahead, then, tail, trialOf, starts, wanted, looked, firstHead}
 use Rattle.trials.specs.Steps.{done, series, programs}
 use Rattle.trials.specs.Trial.{takenBy}
 use Rattle.trials.specs.Loop.{tried, followed, turnOf, writeBy}
 use Rattle.grow.specs.Setting.{testedOf, Setting, State}
 use Rattle.grow.specs.Growth.{links, growth}
+use Rattle.old_list.specs.Write.{ahead, then, tail, trialOf, starts, wanted, looked, firstHead}
 use Rattle.store.specs.Store.{putOn, atFile, truncateAt, storeTruncate}
 use Rattle.demands.specs.Calls.{Left, truncate, after}
 use Rattle.demands.specs.Space.{goodFree, goodUsable, readBy, usedIn}
-use Rattle.span.specs.Members.{has}
-use Rattle.windows.specs.Space.{usedFor, tally}
 
 abbrev good : List ℕ
 good = 0 ∷ 0 ∷ []

@@ -8,6 +8,7 @@ use native.Mathlib.Omega.{arith}
 use borrow.Author.Tests.{le-leb, lt-leb}
 use lib.ListN.{getD}
 use lib.Seq.{getD-take}
+use Rattle.layout.specs.Numbers.{numberMax, sizeMax}
 use Rattle.files.specs.declared.Entry.{Entry}
 use Rattle.files.specs.declared.Table.{Table}
 use Rattle.files.specs.declared.Found.{Found}
@@ -16,10 +17,9 @@ use Rattle.files.specs.Table.{noEntry, held, file, tableOk, searchOf, findOf}
 use Rattle.files.proofs.Tests.{eqb-cases, leb-cases}
 use Rattle.files.proofs.Searches.{search-answers}
 use Rattle.files.proofs.Cases.{find-no-number, find-is, found-at}
+use Rattle.reading.specs.inner.Bounds.{filePosition}
 use Rattle.demands.specs.Plain.{PlainFile, hasFile, Met, refused, met, meets}
 use Rattle.demands.proofs.Again.{AtPlace, first as first-place, next as next-place}
-use Rattle.layout.specs.Numbers.{numberMax, sizeMax}
-use Rattle.reading.specs.inner.Bounds.{filePosition}
 
 -- e is the first file of that number, at place m
 pub data Placed (number : ℕ) (e : Entry) : ℕ → List Entry → Type 0 where

@@ -8,10 +8,10 @@ use borrow.Author.Tests.{lt-ltb, le-ltb}
 use lib.ListN.{length, getD, take, drop, length-append, length-replicate, getD-replicate, length-drop, List·getD-append, List·getD-eq-default, drop-of-length-le}
 use lib.Seq.{ext-getD, getD-take, getD-drop, getD-append-add, length-take-le, take-all}
 use Rattle.old_list.specs.Write.{zeros}
+use Rattle.store.specs.inner.Calls.{askWrite}
 use Rattle.writes.proofs.Holds.{either}
 use Rattle.writes.proofs.Plain.{Overwritten}
 use Rattle.demands.specs.Plain.{overwrite, plainWrite}
-use Rattle.store.specs.inner.Calls.{askWrite}
 
 -- it is a write of at least one byte to a plain file
 pub wrote-some : (number p : ℕ) (src bs : List ℕ) → (length src ≡ 0 → ⊥) → overwrite (askWrite number p src) bs ≡ plainWrite (askWrite number p src) bs

@@ -7,15 +7,22 @@ use native.Mathlib.Omega.{arith}
 use borrow.Author.Tests.{lt-ltb, le-ltb}
 use lib.IntN.{pos}
 use lib.ListN.{length}
+use Rattle.layout.specs.Numbers.{sizeMax}
+use Rattle.layout.specs.inner.Served.{blockList}
+use Rattle.plain.specs.Bytes.{bytes}
 use Rattle.files.specs.declared.Table.{Table}
 use Rattle.files.specs.declared.Found.{Found}
 use Rattle.files.specs.declared.Found.the-variants as found
 use Rattle.files.specs.Table.{held, file, findOf}
 use Rattle.files.proofs.Tests.{ltb-cases, eqb-cases}
-use Rattle.plain.specs.Bytes.{bytes}
-use Rattle.store.specs.Store.{StoreOut, written, writtenOf, storeWrite}
-use Rattle.store.proofs.Calls as calls
 use Rattle.window.specs.declared.Lookahead.{Lookahead}
+use Rattle.trials.specs.Loop.{Writing, WriteOut}
+use Rattle.grow.specs.Setting.{State, testedOf}
+use Rattle.grow.specs.inner.Setting.{setting, state}
+use Rattle.new_list.specs.inner.Put.{puts}
+use Rattle.store.specs.Store.{StoreOut, written, writtenOf, storeWrite}
+use Rattle.store.specs.inner.Calls.{askWrite}
+use Rattle.store.proofs.Calls as calls
 use Rattle.demands.specs.Calls.{write, storedIn}
 use Rattle.demands.specs.Plain.{PlainFile, plainCode, plainWrite}
 use Rattle.demands.specs.Runs.{filesIn}
@@ -26,13 +33,6 @@ use Rattle.demands.proofs.Contents as contents
 use Rattle.demands.proofs.Kept.{Held, before, again, tested-sizes}
 use Rattle.demands.proofs.Ends.{Ends, refused, short, ends-same, ends-write}
 use Rattle.demands.proofs.Overwrites.{wrote-some, wrote-none}
-use Rattle.layout.specs.Numbers.{sizeMax}
-use Rattle.grow.specs.Setting.{State, testedOf}
-use Rattle.trials.specs.Loop.{Writing, WriteOut}
-use Rattle.grow.specs.inner.Setting.{setting, state}
-use Rattle.store.specs.inner.Calls.{askWrite}
-use Rattle.layout.specs.inner.Served.{blockList}
-use Rattle.new_list.specs.inner.Put.{puts}
 
 module _ {B N l : ℕ} {s : State} (h : Held B N l s) (health : List ℕ) (number : ℕ) where
   abbrev t : Table

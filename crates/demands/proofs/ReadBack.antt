@@ -9,10 +9,16 @@ use lib.IntN.{pos}
 use lib.ListN.{length, take, drop, length-take, length-append, length-replicate}
 use lib.Seq.{drop-at, take-append-seam}
 use Rattle.span.proofs.Parts.{sets-over}
+use Rattle.layout.specs.Numbers.{numberMax, sizeMax, accepted}
+use Rattle.card.specs.inner.Cards.{cardWith}
 use Rattle.files.proofs.Tests.{leb-cases, bool-cases}
+use Rattle.grow.specs.Setting.{State}
 use Rattle.reading.specs.declared.Reading.the-variants as reading
 use Rattle.reading.specs.Calls.{readOf}
+use Rattle.reading.specs.inner.Bounds.{filePosition}
 use Rattle.old_list.specs.Write.{zeros}
+use Rattle.store.specs.Asked.{WriteAsked}
+use Rattle.store.specs.inner.Calls.{askWrite}
 use Rattle.demands.specs.Calls.{write, after, Shape, under}
 use Rattle.demands.specs.Came.{Sounds, Came}
 use Rattle.demands.specs.Plain.{PlainFile, plainChange, plainCode, hasFile, fileBytes, plainWrite, meets, refused, overwrite}
@@ -21,13 +27,7 @@ use Rattle.demands.specs.Runs.{filesIn, fitting}
 use Rattle.demands.proofs.Named.{meets-high, meets-none, meets-far, meets-file}
 use Rattle.demands.proofs.Demands.{accepted-plain, accepted-code}
 use Rattle.demands.proofs.Looks as looks
-use Rattle.layout.specs.Numbers.{numberMax, sizeMax, accepted}
-use Rattle.grow.specs.Setting.{State}
-use Rattle.store.specs.Asked.{WriteAsked}
 use Rattle.demands.proofs.Overwrites.{wrote-some, plain-length}
-use Rattle.card.specs.inner.Cards.{cardWith}
-use Rattle.reading.specs.inner.Bounds.{filePosition}
-use Rattle.store.specs.inner.Calls.{askWrite}
 
 -- ---- a plain file that was written
 

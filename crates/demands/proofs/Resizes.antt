@@ -9,22 +9,33 @@ use lib.IntN.{pos}
 use lib.ListN.{length, take, length-replicate}
 use lib.Seq.{take-length}
 use Rattle.layout.specs.Layout.{indexAt, offsetAt}
+use Rattle.layout.specs.Numbers.{sizeMax, nullBlock}
+use Rattle.layout.specs.inner.Served.{blockList}
 use Rattle.hops.specs.Walk.{hops}
+use Rattle.hops.specs.inner.Ways.{way}
+use Rattle.card.specs.inner.Cards.{cardWith}
 use Rattle.ctz.specs.Lists.{SoundList, blockAt}
+use Rattle.plain.specs.Bytes.{bytes}
+use Rattle.plain.specs.inner.Forms.{GoodList}
+use Rattle.plain.proofs.Files.{bytes-length}
+use Rattle.plain.proofs.Finding.{walk-sound, lookup-sound}
 use Rattle.files.specs.declared.Entry.{Entry}
 use Rattle.files.specs.declared.Table.{Table}
 use Rattle.files.specs.declared.Found.{Found}
 use Rattle.files.specs.declared.Found.the-variants as found
 use Rattle.files.specs.Table.{held, file, findOf}
 use Rattle.files.proofs.Tests.{ltb-cases, eqb-cases}
-use Rattle.plain.specs.Bytes.{bytes}
-use Rattle.plain.proofs.Files.{bytes-length}
-use Rattle.plain.proofs.Finding.{walk-sound, lookup-sound}
+use Rattle.window.specs.declared.Lookahead.{Lookahead}
+use Rattle.trials.specs.Loop.{Writing, WriteOut}
+use Rattle.grow.specs.Setting.{State, testedOf}
+use Rattle.grow.specs.inner.Setting.{setting, state}
 use Rattle.old_list.specs.Write.{zeros}
+use Rattle.new_list.specs.inner.Put.{puts}
 use Rattle.store.specs.Store.{StoreOut, written, writtenOf, storeTruncate}
+use Rattle.store.specs.inner.Store.{shrunk}
+use Rattle.store.specs.inner.Calls.{askTruncate}
 use Rattle.store.proofs.Calls as calls
 use Rattle.store.proofs.Files as files
-use Rattle.window.specs.declared.Lookahead.{Lookahead}
 use Rattle.demands.specs.Calls.{truncate, storedIn}
 use Rattle.demands.specs.Plain.{PlainFile, plainChange, plainCode, resized, fileBytes}
 use Rattle.demands.specs.Runs.{filesIn}
@@ -38,17 +49,6 @@ use Rattle.demands.proofs.Contents as contents
 use Rattle.demands.proofs.Kept.{Held, before, again, tested-sizes, sound-files}
 use Rattle.demands.proofs.Ends.{Ends, accepted, refused, short, ends-truncate}
 use Rattle.demands.proofs.Steps.{resized-less, resized-more, empty-bytes}
-use Rattle.layout.specs.Numbers.{sizeMax, nullBlock}
-use Rattle.grow.specs.Setting.{State, testedOf}
-use Rattle.trials.specs.Loop.{Writing, WriteOut}
-use Rattle.store.specs.inner.Store.{shrunk}
-use Rattle.grow.specs.inner.Setting.{setting, state}
-use Rattle.store.specs.inner.Calls.{askTruncate}
-use Rattle.hops.specs.inner.Ways.{way}
-use Rattle.card.specs.inner.Cards.{cardWith}
-use Rattle.layout.specs.inner.Served.{blockList}
-use Rattle.plain.specs.inner.Forms.{GoodList}
-use Rattle.new_list.specs.inner.Put.{puts}
 
 -- a truncate to the length that a plain file has
 resized-same : {number m : ℕ} {e : Entry} {es : List Entry} (B : ℕ) (img : List ℕ) (size : ℕ) → Placed number e m es → length (bytes B img (blockList (e .head) (e .size))) ≡ size

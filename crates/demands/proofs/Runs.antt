@@ -5,13 +5,17 @@ use mathlib.Core.List.{List, [], _∷_}
 use Prim.Native.Nat.{ℕ, _<_}
 use native.Mathlib.Omega.{arith}
 use lib.ListN.{length}
+use Rattle.layout.specs.inner.Served.{geometry, blockList}
 use Rattle.card.specs.Card.{goodCard}
+use Rattle.card.specs.inner.Cards.{cardWith}
 use Rattle.ctz.specs.Lists.{SoundList}
 use Rattle.files.specs.declared.Entry.{Entry}
 use Rattle.files.specs.declared.Table.{Table}
 use Rattle.files.specs.Table.{held, tableOf, filesOk}
 use Rattle.files.proofs.Lists.{of-ok}
 use Rattle.window.specs.Value.{freshOf}
+use Rattle.window.specs.inner.Facts.{scope}
+use Rattle.grow.specs.Setting.{State}
 use Rattle.demands.specs.Calls.{Call, Left, Shape}
 use Rattle.demands.specs.Came.{Among, here, there, Sounds, Came, fresh, called}
 use Rattle.demands.specs.Plain.{PlainFile, plainCode, grows}
@@ -20,10 +24,6 @@ use Rattle.demands.proofs.Contents.{Plainly, same-files}
 use Rattle.demands.proofs.Kept.{Held}
 use Rattle.demands.proofs.Ends.{Ends, accepted, refused, short}
 use Rattle.demands.proofs.Came.{step, ends-held, came-held}
-use Rattle.grow.specs.Setting.{State}
-use Rattle.layout.specs.inner.Served.{geometry, blockList}
-use Rattle.card.specs.inner.Cards.{cardWith}
-use Rattle.window.specs.inner.Facts.{scope}
 
 -- one call, and then what the rest gives
 turn : {B N l : ℕ} {fits : Bool} {c : Call} {s : State} {o : Left} → Ends B N l fits c s o → (rest : List PlainFile → Run)

@@ -7,6 +7,9 @@ use native.Mathlib.Omega.{arith}
 use borrow.Author.Tests.{lt-leb, le-leb}
 use lib.ListN.{length, take, length-append, length-map, length-replicate}
 use lib.Seq.{take-length}
+use Rattle.layout.specs.Numbers.{filesMax}
+use Rattle.layout.specs.inner.Served.{blockList}
+use Rattle.plain.specs.Bytes.{bytes, span}
 use Rattle.files.specs.declared.Entry.{Entry}
 use Rattle.files.specs.declared.Table.{Table}
 use Rattle.files.specs.declared.Found.{Found}
@@ -19,7 +22,7 @@ use Rattle.files.proofs.Lists.{held-of}
 use Rattle.files.proofs.Cases as cases
 use Rattle.files.proofs.Kept.{create-ok, remove-ok}
 use Rattle.files.proofs.Tests.{ltb-cases}
-use Rattle.plain.specs.Bytes.{bytes, span}
+use Rattle.grow.specs.Setting.{State}
 use Rattle.old_list.specs.Write.{zeros}
 use Rattle.demands.specs.Calls.{create, remove, changedIn}
 use Rattle.demands.specs.Plain.{PlainFile, plainCode, resized}
@@ -29,9 +32,6 @@ use Rattle.demands.proofs.Named.{Unnamed, FindView, high, missing, at, 
 use Rattle.demands.proofs.Contents as contents
 use Rattle.demands.proofs.Kept.{Held, before, again}
 use Rattle.demands.proofs.Ends.{Ends, accepted, refused}
-use Rattle.layout.specs.Numbers.{filesMax}
-use Rattle.grow.specs.Setting.{State}
-use Rattle.layout.specs.inner.Served.{blockList}
 
 -- a truncate of a plain file: cut, as it was, or zeros behind it
 pub resized-less : (size : ℕ) (bs : List ℕ) → size ≤ length bs → take size bs ≡ resized size bs

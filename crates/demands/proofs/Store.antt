@@ -5,45 +5,45 @@ use mathlib.Core.List.{List, []}
 use Prim.Native.Nat.{ℕ, _+_, _-_, _≤_, _<_, max}
 use native.Mathlib.Omega.{arith}
 use lib.ListN.{length}
+use Rattle.span.specs.Members.{has}
 use Rattle.layout.specs.Layout.{start, indexAt, offsetAt}
+use Rattle.layout.specs.inner.Served.{geometry, blockList}
 use Rattle.hops.specs.Walk.{hops}
+use Rattle.hops.specs.inner.Ways.{way}
 use Rattle.card.specs.Card.{goodCard}
-use Rattle.ctz.specs.Lists.{SoundList, blockAt}
+use Rattle.card.specs.inner.Cards.{CardFacts, cardWith}
 use Rattle.ctz.specs.declared.Found.the-variants.{At}
-use Rattle.files.specs.declared.Entry.{Entry}
-use Rattle.files.specs.declared.Table.{Table}
-use Rattle.files.specs.Table.{held}
+use Rattle.ctz.specs.Lists.{SoundList, blockAt}
 use Rattle.plain.specs.Bytes.{bytes}
+use Rattle.plain.specs.inner.Forms.{GoodList}
 use Rattle.plain.proofs.Indexes.{card-of}
 use Rattle.plain.proofs.Finding.{walk-sound}
 use Rattle.plain.proofs.Frames as frames
+use Rattle.plain.proofs.Same.{SameBlocks}
+use Rattle.files.specs.declared.Entry.{Entry}
+use Rattle.files.specs.declared.Table.{Table}
+use Rattle.files.specs.Table.{held}
 use Rattle.window.specs.declared.Lookahead.{Lookahead}
 use Rattle.window.specs.Scan.{seenAll}
 use Rattle.window.specs.Value.{checkpointOf}
+use Rattle.window.specs.inner.Facts.{ValidWindow, GoodScope}
 use Rattle.windows.proofs.Views.{During, Became, Lists, CleanWindow}
 use Rattle.windows.proofs.InCall.{begins, clean-after}
 use Rattle.alloc.specs.Visits.{seenIn, visitsOf}
-use Rattle.old_list.specs.Write.{kept, Found, lookOf, jobOf}
-use Rattle.writes.proofs.Writes as writes
-use Rattle.demands.proofs.Files.{bytes-is}
-use Rattle.demands.proofs.Windows.{Listed, InCall, windowed, in-has}
-use Rattle.demands.specs.Came.{Among}
-use Rattle.demands.proofs.Tables.{listedBy, SoundFiles, of-sounds, listed-at, same-file, told-anew}
-use Rattle.span.specs.Members.{has}
-use Rattle.writes.proofs.Allocators.{Stays}
-use Rattle.demands.specs.Plain.{overwrite}
-use Rattle.demands.proofs.Overwrites.{overwritten-is}
-use Rattle.grow.specs.inner.Extend.{windowAlloc}
 use Rattle.trials.specs.Loop.{Written, NoRoom, WriteOut}
-use Rattle.card.specs.inner.Cards.{CardFacts, cardWith}
-use Rattle.layout.specs.inner.Served.{geometry, blockList}
-use Rattle.hops.specs.inner.Ways.{way}
-use Rattle.plain.specs.inner.Forms.{GoodList}
-use Rattle.plain.proofs.Same.{SameBlocks}
-use Rattle.window.specs.inner.Facts.{ValidWindow, GoodScope}
-use Rattle.store.specs.inner.Calls.{askWrite}
+use Rattle.grow.specs.inner.Extend.{windowAlloc}
+use Rattle.old_list.specs.Write.{kept, Found, lookOf, jobOf}
 use Rattle.old_list.specs.inner.Lookups.{lookIn}
 use Rattle.new_list.specs.inner.Put.{puts}
+use Rattle.store.specs.inner.Calls.{askWrite}
+use Rattle.writes.proofs.Writes as writes
+use Rattle.writes.proofs.Allocators.{Stays}
+use Rattle.demands.specs.Came.{Among}
+use Rattle.demands.specs.Plain.{overwrite}
+use Rattle.demands.proofs.Files.{bytes-is}
+use Rattle.demands.proofs.Windows.{Listed, InCall, windowed, in-has}
+use Rattle.demands.proofs.Tables.{listedBy, SoundFiles, of-sounds, listed-at, same-file, told-anew}
+use Rattle.demands.proofs.Overwrites.{overwritten-is}
 
 -- What a call is given: a card of sound lists, and a window that is valid and clean for them.
 pub record Before (B N l : ℕ) (files : List Entry) (w : Lookahead) (img : List ℕ) : Type 0 where

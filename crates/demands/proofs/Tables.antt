@@ -7,29 +7,29 @@ use native.Mathlib.Omega.{arith}
 use borrow.Author.Tests.{eqb-true, eqb-false}
 use lib.Dec.{eqb}
 use lib.ListN.{length}
+use Rattle.span.specs.Members.{has}
 use Rattle.layout.specs.Layout.{start, indexAt}
+use Rattle.layout.specs.inner.Served.{blockList}
+use Rattle.card.specs.inner.Cards.{cardWith}
 use Rattle.ctz.specs.Lists.{SoundList, blockAt}
 use Rattle.ctz.specs.Visits.{Visited, visitOf}
-use Rattle.files.specs.declared.Entry.{Entry}
+use Rattle.ctz.proofs.Visiting.{visit-empty}
+use Rattle.plain.specs.inner.Forms.{GoodList}
 use Rattle.plain.proofs.Countdowns.{among-countdown, countdown-among}
 use Rattle.plain.proofs.Indexes.{used-index, index-used}
-use Rattle.ctz.proofs.Visiting.{visit-empty}
 use Rattle.plain.proofs.Finding.{visit-sound}
 use Rattle.plain.proofs.Frames as frames
+use Rattle.plain.proofs.Same.{SameBlocks}
+use Rattle.files.specs.declared.Entry.{Entry}
 use Rattle.window.specs.Scan.{Seen, seenAll, listedOf}
 use Rattle.windows.proofs.Views.{Lists, Below}
 use Rattle.windows.proofs.Has.{or-right, has-none, has-append}
 use Rattle.windows.proofs.Listed as visits
 use Rattle.alloc.specs.Visits.{visitsOf, seenFrom}
-use Rattle.demands.specs.Came.{Among, here, there}
-use Rattle.demands.proofs.Windows.{Listed}
-use Rattle.span.specs.Members.{has}
 use Rattle.writes.proofs.Cells.{cell}
 use Rattle.writes.proofs.Allocators.{Stays}
-use Rattle.card.specs.inner.Cards.{cardWith}
-use Rattle.layout.specs.inner.Served.{blockList}
-use Rattle.plain.specs.inner.Forms.{GoodList}
-use Rattle.plain.proofs.Same.{SameBlocks}
+use Rattle.demands.specs.Came.{Among, here, there}
+use Rattle.demands.proofs.Windows.{Listed}
 
 -- what the visits of these files hand over
 abbrev pub listedBy : ℕ → ℕ → List Entry → List ℕ → List ℕ

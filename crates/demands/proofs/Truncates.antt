@@ -5,20 +5,26 @@ use mathlib.Core.List.{List, [], _++_}
 use Prim.Native.Nat.{ℕ, _-_, _≤_, _<_}
 use native.Mathlib.Omega.{arith}
 use lib.ListN.{getD, set, take}
+use Rattle.span.specs.Members.{has}
 use Rattle.layout.specs.Layout.{indexAt}
+use Rattle.layout.specs.inner.Served.{blockList}
 use Rattle.layout.proofs.Places.{index-mono}
+use Rattle.card.specs.Card.{pointer}
+use Rattle.card.specs.inner.Cards.{cardWith}
+use Rattle.ctz.specs.declared.Found.the-variants.{At}
 use Rattle.ctz.specs.Lists.{SoundList, blockAt}
 use Rattle.ctz.specs.Lookup.{lookupOf}
-use Rattle.ctz.specs.declared.Found.the-variants.{At}
 use Rattle.ctz.specs.Visits.{visitOf}
-use Rattle.files.specs.declared.Entry.{Entry}
-use Rattle.files.proofs.Replaced.{altered}
+use Rattle.ctz.proofs.Sounds.{at}
 use Rattle.plain.specs.Bytes.{bytes}
+use Rattle.plain.specs.inner.Forms.{GoodList}
 use Rattle.plain.proofs.Walks.{at-cut}
 use Rattle.plain.proofs.Spans.{length-span}
 use Rattle.plain.proofs.Indexes.{used-index}
 use Rattle.plain.proofs.Finding.{lookup-block}
 use Rattle.plain.proofs.Files.{shrink-found}
+use Rattle.files.specs.declared.Entry.{Entry}
+use Rattle.files.proofs.Replaced.{altered}
 use Rattle.window.specs.declared.Lookahead.{Lookahead}
 use Rattle.window.specs.Scan.{Seen, listedOf}
 use Rattle.window.proofs.Cases.{no-both}
@@ -28,18 +34,12 @@ use Rattle.windows.proofs.Came.{fewer-clean}
 use Rattle.windows.proofs.Listed.{became-set, unseen}
 use Rattle.alloc.specs.Visits.{seenOf, visitsOf}
 use Rattle.old_list.specs.Write.{zeros}
+use Rattle.store.specs.inner.Calls.{askWrite}
+use Rattle.demands.specs.Plain.{overwrite}
 use Rattle.demands.proofs.Tables.{listedBy, visit-told, of-sounds}
 use Rattle.demands.proofs.Store.{Before}
 use Rattle.demands.proofs.Again.{AtPlace, among-at, sounds-set, visits-set, visits-at}
-use Rattle.span.specs.Members.{has}
-use Rattle.demands.specs.Plain.{overwrite}
 use Rattle.demands.proofs.Overwrites.{plain-zeros}
-use Rattle.card.specs.Card.{pointer}
-use Rattle.card.specs.inner.Cards.{cardWith}
-use Rattle.layout.specs.inner.Served.{blockList}
-use Rattle.ctz.proofs.Sounds.{at}
-use Rattle.plain.specs.inner.Forms.{GoodList}
-use Rattle.store.specs.inner.Calls.{askWrite}
 
 -- What a write of n zeros at the old size leaves is the file with n zeros behind it.
 pub grow-plain : (img : List ℕ) (B head size n : ℕ) → overwrite (askWrite 0 size (zeros n)) (bytes B img (blockList head size)) ≡ bytes B img (blockList head size) ++ zeros n

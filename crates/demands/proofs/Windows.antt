@@ -7,13 +7,16 @@ use Prim.Native.Nat.{ℕ, _+_, _-_, _%_, _≤_, _<_}
 use native.Mathlib.Nat.{mod-lt}
 use native.Mathlib.Omega.{arith}
 use lib.ListN.{length}
+use Rattle.span.specs.Members.{has}
+use Rattle.card.specs.inner.Cards.{CardFacts, cardWith}
+use Rattle.health.specs.Health.{refusesErase, refusesProgram}
 use Rattle.files.specs.declared.Table.{Table}
-use Rattle.grow.specs.Extend.{tookOf}
 use Rattle.window.specs.declared.Lookahead.{Lookahead}
 use Rattle.window.specs.declared.Answer.{Answer}
 use Rattle.window.specs.declared.Answer.the-variants as answer
 use Rattle.window.specs.Allocate.{allocOf}
 use Rattle.window.specs.Scan.{Seen}
+use Rattle.window.specs.inner.Facts.{ValidWindow, GoodScope, scope}
 use Rattle.window.proofs.Cases.{no-both}
 use Rattle.windows.proofs.Views.{Claim, cleanly, exactly, On, Handed, View, handed, full, bad, Result, Lists, Shows, During, New, isBlock}
 use Rattle.windows.proofs.Asking.{Knows, unusedFrom, goodIn, bit}
@@ -23,14 +26,11 @@ use Rattle.windows.proofs.InCall as incall
 use Rattle.windows.proofs.Exact.{view, handed-first, full-none, good-nil, good-cons}
 use Rattle.windows.proofs.Listed.{lists-tells}
 use Rattle.alloc.specs.Visits.{seenIn}
-use Rattle.demands.specs.Space.{goodBlock}
-use Rattle.span.specs.Members.{has}
-use Rattle.writes.proofs.Allocators.{In, Stays, Allotted, Allocator, Drawn, Counter, MustStand}
 use Rattle.trials.specs.Loop.{Took, Block, None, Bad}
+use Rattle.grow.specs.Extend.{tookOf}
 use Rattle.grow.specs.inner.Extend.{windowAlloc}
-use Rattle.card.specs.inner.Cards.{CardFacts, cardWith}
-use Rattle.window.specs.inner.Facts.{ValidWindow, GoodScope, scope}
-use Rattle.health.specs.Health.{refusesErase, refusesProgram}
+use Rattle.writes.proofs.Allocators.{In, Stays, Allotted, Allocator, Drawn, Counter, MustStand}
+use Rattle.demands.specs.Space.{goodBlock}
 
 -- ---- what an answer tells
 

@@ -8,8 +8,8 @@ use Rattle.ctz.specs.Lists.{SoundList}
 use Rattle.files.specs.declared.Entry.{Entry}
 use Rattle.files.specs.declared.Table.{Table}
 use Rattle.files.specs.Table.{held, listOf, tableOk}
-use Rattle.grow.specs.Setting.{State}
 use Rattle.window.specs.Value.{freshOf}
+use Rattle.grow.specs.Setting.{State}
 use Rattle.demands.specs.Calls.{Call, Shape, under, after}
 
 -- e is one of these files

@@ -1,10 +1,10 @@
 -- What demands 1 and 2 say of one store call on a table of sound lists, from the state s to what it leaves, o.
 use mathlib.Core.Path.{_≡_}
 use Prim.Native.Nat.{ℕ}
+use Rattle.plain.specs.Bytes.{bytes}
 use Rattle.files.specs.declared.Entry.{Entry}
 use Rattle.files.specs.Table.{held, listOf}
 use Rattle.grow.specs.Setting.{State}
-use Rattle.plain.specs.Bytes.{bytes}
 use Rattle.demands.specs.Calls.{Call, create, remove, write, truncate, look, Left, Shape}
 use Rattle.demands.specs.Came.{Among, Sounds, Came}
 use Rattle.demands.specs.Plain.{plainAfter}

@@ -12,7 +12,7 @@ use Rattle.files.specs.declared.position.Sought.{Sought}
 use Rattle.files.specs.declared.position.Sought.the-variants as sought
 use Rattle.files.specs.Seek.{Seek, whenceOf}
 use Rattle.reading.specs.declared.Reading.the-variants as reading
-use Rattle.reading.specs.Calls.{FilePosition, Outcome}
+use Rattle.reading.specs.Calls.{FilePosition, ReadOut}
 use Rattle.demands.specs.Plain.{PlainFile, fileBytes, meets, meetsFile, refused, missing, met, codeIf}
 
 abbrev pub plainSize : ℕ → List PlainFile → Sized
@@ -29,7 +29,7 @@ plainSeek k fs =
     ]
 
 -- min(room, length - position) bytes from the position on go to the front of the buffer; none at or past the end: `-` stops at 0
-abbrev pub readFrom : List ℕ → ℕ → List ℕ → Outcome
+abbrev pub readFrom : List ℕ → ℕ → List ℕ → ReadOut
 readFrom bytes p buffer =
     record {
       answer = reading.Bytes (min (length buffer) (length bytes - p));
@@ -37,7 +37,7 @@ readFrom bytes p buffer =
     }
 
 -- a refusal leaves the buffer as it came
-abbrev pub plainRead : FilePosition → List ℕ → List PlainFile → Outcome
+abbrev pub plainRead : FilePosition → List ℕ → List PlainFile → ReadOut
 plainRead place buffer fs =
     elim (meets place fs) [
       | refused ↦ record { answer = reading.Refused; buffer = buffer }

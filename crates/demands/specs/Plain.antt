@@ -7,8 +7,8 @@ use lib.IntN.{ℤ}
 use lib.ListN.{length, take, drop}
 use Rattle.layout.specs.Numbers.{filesMax, numberMax, sizeMax, accepted, file-exists, invalid, no-file, table-full, too-large}
 use Rattle.reading.specs.Calls.{FilePosition}
-use Rattle.store.specs.Asked.{WriteAsked}
 use Rattle.old_list.specs.Write.{zeros}
+use Rattle.store.specs.Asked.{WriteAsked}
 use Rattle.demands.specs.Calls.{Call, create, remove, write, truncate, look}
 
 -- a plain file: its number and its bytes; a plain store is a list of them, numbers rising

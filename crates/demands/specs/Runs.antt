@@ -6,11 +6,11 @@ use lib.IntN.{ℤ, pos, negsuc}
 use lib.Signed.{leZ}
 use Rattle.layout.specs.Numbers.{no-space}
 use Rattle.health.specs.Health.{healthOk}
+use Rattle.plain.specs.Bytes.{bytes}
 use Rattle.files.specs.declared.Entry.{Entry}
 use Rattle.files.specs.Table.{held, listOf}
-use Rattle.grow.specs.Setting.{Setting, State}
 use Rattle.window.specs.Value.{lookaheadFits}
-use Rattle.plain.specs.Bytes.{bytes}
+use Rattle.grow.specs.Setting.{Setting, State}
 use Rattle.demands.specs.Calls.{Call, Left, after, Shape, under}
 use Rattle.demands.specs.Plain.{PlainFile, plainAfter, plainCode, grows}
 

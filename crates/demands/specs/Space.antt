@@ -5,19 +5,19 @@ use mathlib.Core.List.{List, [], _∷_, _++_}
 use Prim.Native.Nat.{ℕ, _+_, _-_, _≤_, _<_, min, max}
 use lib.IntN.{ℤ}
 use lib.ListN.{length, take}
+use Rattle.span.specs.Members.{has}
 use Rattle.layout.specs.Numbers.{accepted, no-space}
 use Rattle.layout.specs.Layout.{indexAt}
-use Rattle.span.specs.Members.{has}
+use Rattle.health.specs.Health.{refusesErase, refusesProgram}
 use Rattle.ctz.specs.Visits.{visitOf}
 use Rattle.files.specs.declared.Entry.{Entry}
 use Rattle.files.specs.Table.{held, listOf}
+use Rattle.windows.specs.Space.{usedFor, markedIn, goodUnused}
 use Rattle.alloc.specs.Visits.{listedIn}
 use Rattle.grow.specs.Setting.{Setting, State, cardIn, tested}
-use Rattle.store.specs.Asked.{WriteAsked, TruncateAsked}
 use Rattle.old_list.specs.Write.{zeros}
+use Rattle.store.specs.Asked.{WriteAsked, TruncateAsked}
 use Rattle.demands.specs.Calls.{Left}
-use Rattle.windows.specs.Space.{usedFor, markedIn, goodUnused}
-use Rattle.health.specs.Health.{refusesErase, refusesProgram}
 
 -- a good block takes an erase and a program: it refuses neither
 abbrev pub goodBlock : List ℕ → ℕ → Bool

@@ -6,11 +6,12 @@ use Prim.Native.Nat.{ℕ, _+_, _≤_, _<_}
 use native.Mathlib.Numerals.{add-one}
 use native.Mathlib.Nat.{sub-zero}
 use native.Mathlib.Omega.{arith}
+use borrow.Author.Tests.{le-leb, lt-leb, lt-ltb, le-ltb}
 use lib.ListN.{take, drop}
 use lib.Seq.{getD-take}
 use lib.Dec.{leb}
 use lib.IntN.{ℤ}
-use borrow.Author.Tests.{le-leb, lt-leb, lt-ltb, le-ltb}
+use Rattle.layout.specs.Numbers.{filesMax, numberMax, sizeMax}
 use Rattle.files.specs.declared.Table.{Table}
 use Rattle.files.specs.declared.Found.{Found}
 use Rattle.files.specs.declared.Found.the-variants as found
@@ -20,11 +21,10 @@ use Rattle.files.specs.declared.position.Sought.the-variants as sought
 use Rattle.files.specs.Table.{noEntry, held, file, tableOf, tableOk, searchOf, findOf, sizeOf}
 use Rattle.files.specs.Change.{emptyFile, insertOf, withoutOf, changed, createOf, removeOf}
 use Rattle.files.specs.Seek.{Seek, whenceOf, seekOf}
+use Rattle.files.specs.inner.Facts.{slotFor}
 use Rattle.files.proofs.Tests.{bool-cases, leb-cases}
 use Rattle.files.proofs.Laws.{held-length, count-ok}
 use Rattle.files.proofs.Lists.{stands, insert-at}
-use Rattle.layout.specs.Numbers.{filesMax, numberMax, sizeMax}
-use Rattle.files.specs.inner.Facts.{slotFor}
 
 -- the words of a seek, one after the other
 abbrev pub seeking : ℕ → ℕ → ℤ → ℤ → Seek

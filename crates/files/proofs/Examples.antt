@@ -3,6 +3,7 @@ use mathlib.Core.Path.{_≡_, refl}
 use mathlib.Core.List.{List, [], _∷_}
 use Prim.Native.Nat.{ℕ, zero, suc}
 use lib.IntN.{pos, negsuc}
+use Rattle.layout.specs.Numbers.{filesMax}
 use Rattle.files.specs.declared.Entry.{Entry}
 use Rattle.files.specs.declared.Table.{Table}
 use Rattle.files.specs.declared.change.Change.the-variants as change
@@ -10,7 +11,6 @@ use Rattle.files.specs.declared.position.Sought.the-variants as sought
 use Rattle.files.specs.Table.{headOk, entryOk, filesOk, tableOf, tableOk, searchOf, findOf}
 use Rattle.files.specs.Change.{emptyFile, createOf}
 use Rattle.files.specs.Seek.{withinOf, whenceOf, seekOf}
-use Rattle.layout.specs.Numbers.{filesMax}
 use Rattle.files.proofs.Cases.{seeking}
 
 -- as many files as a table holds, numbers 0, 1, 2, ..

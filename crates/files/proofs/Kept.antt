@@ -7,6 +7,7 @@ use Prim.Native.Nat.{ℕ, _+_, _≤_, _<_}
 use native.Mathlib.Nat.{sub-zero}
 use native.Mathlib.Omega.{arith}
 use lib.Seq.{getD-take}
+use Rattle.layout.specs.Numbers.{filesMax, numberMax}
 use Rattle.files.specs.declared.Entry.{Entry}
 use Rattle.files.specs.declared.Table.{Table}
 use Rattle.files.specs.declared.Found.{Found}
@@ -18,14 +19,13 @@ use Rattle.files.specs.declared.change.Change.the-variants as change
 use Rattle.files.specs.declared.change.Changed.{Changed}
 use Rattle.files.specs.Table.{noEntry, held, file, tableOf, tableOk, findOf, sizeOf}
 use Rattle.files.specs.Change.{emptyFile, insertOf, withoutOf, changed, createOf, removeOf}
+use Rattle.files.specs.inner.Facts.{slotFor}
 use Rattle.files.proofs.Tests.{leb-cases, ltb-cases}
 use Rattle.files.proofs.Laws.{held-length, held-ok, count-ok}
 use Rattle.files.proofs.Lists.{held-of, of-ok}
 use Rattle.files.proofs.Cases
 use Rattle.files.proofs.Others.{fileOf, insert-other, insert-own, without-insert, insert-length, insert-ok, without-other, without-own, without-ok, without-length}
 use Rattle.files.proofs.Searches.{missing-none, found-some, search-insert, search-answers}
-use Rattle.layout.specs.Numbers.{filesMax, numberMax}
-use Rattle.files.specs.inner.Facts.{slotFor}
 
 -- ---- the answers of find, and the size by the file
 

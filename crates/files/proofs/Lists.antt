@@ -7,15 +7,15 @@ use native.Mathlib.Nat.{suc-add, zero-add}
 use native.Mathlib.Omega.{arith}
 use lib.ListN.{length, take, drop, getD, set, replicate, length-append, length-drop, length-replicate}
 use lib.Seq.{slice, sets, set-append-seam, append-snoc, take-take, take-append-seam, length-take-le}
+use Rattle.layout.specs.Numbers.{filesMax}
 use Rattle.files.specs.declared.Entry.{Entry}
 use Rattle.files.specs.declared.Table.{Table}
 use Rattle.files.specs.declared.Found.the-variants as found
 use Rattle.files.specs.Table.{noEntry, held, tableOf, filesOk, tableOk, searchOf}
 use Rattle.files.specs.Change.{emptyFile, insertOf, withoutOf}
+use Rattle.files.specs.inner.Facts.{appendOf, slotFor}
 use Rattle.files.proofs.Tests.{ltb-cases, eqb-cases}
 use Rattle.files.proofs.Laws.{count-ok, held-length, table-ok}
-use Rattle.layout.specs.Numbers.{filesMax}
-use Rattle.files.specs.inner.Facts.{appendOf, slotFor}
 
 -- files stored one by one over zero entries
 pub sets-pad : (es vs : List Entry) (k : ℕ) → sets (es ++ replicate (length vs + k) noEntry) (length es) vs ≡ (es ++ vs) ++ replicate k noEntry

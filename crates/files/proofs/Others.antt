@@ -5,15 +5,15 @@ use mathlib.Core.List.{List, [], _∷_}
 use mathlib.Core.Option.{Option, none, some}
 use Prim.Native.Nat.{ℕ, suc, _≤_, _<_}
 use native.Mathlib.Omega.{arith}
+use borrow.Author.Tests.{lt-ltb, le-ltb, eq-eqb, ne-eqb}
 use lib.ListN.{length}
 use lib.Dec.{eqb}
-use borrow.Author.Tests.{lt-ltb, le-ltb, eq-eqb, ne-eqb}
+use Rattle.layout.specs.Numbers.{numberMax}
 use Rattle.files.specs.declared.Entry.{Entry}
 use Rattle.files.specs.Table.{filesOk}
 use Rattle.files.specs.Change.{emptyFile, insertOf, withoutOf}
 use Rattle.files.proofs.Tests.{ltb-cases, eqb-cases}
 use Rattle.files.proofs.Laws.{first-good, rest-ok, nothing-ok, join-ok, looser, GoodEntry}
-use Rattle.layout.specs.Numbers.{numberMax}
 
 -- the file of this number, if there is one
 unfoldable pub fileOf : ℕ → List Entry → Option Entry

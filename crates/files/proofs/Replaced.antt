@@ -6,18 +6,18 @@ use Prim.Native.Nat.{ℕ, zero, suc, _≤_, _<_}
 use native.Mathlib.Omega.{arith}
 use lib.ListN.{getD, set, length-set}
 use lib.Seq.{take-set-lt, getD-set-same, getD-set-other, getD-take}
+use Rattle.layout.specs.Numbers.{numberMax, sizeMax, nullBlock, headMax}
 use Rattle.files.specs.declared.Entry.{Entry}
 use Rattle.files.specs.declared.Table.{Table}
 use Rattle.files.specs.declared.Found.the-variants as found
 use Rattle.files.specs.declared.Sized.the-variants as sized
 use Rattle.files.specs.Table.{noEntry, held, file, filesOk, tableOk, searchOf, findOf, sizeOf}
+use Rattle.files.specs.Change.{withList}
 use Rattle.files.proofs.Tests.{leb-cases, eqb-cases}
 use Rattle.files.proofs.Laws.{first-good, rest-ok, join-ok, slots-ok, count-ok, held-ok, table-ok, GoodEntry}
 use Rattle.files.proofs.Cases.{find-is, find-no-number, found-at, size-at, size-missing, size-refused}
 use Rattle.files.proofs.Searches.{search-here, search-on}
 use Rattle.files.proofs.Kept.{found-cases}
-use Rattle.layout.specs.Numbers.{numberMax, sizeMax, nullBlock, headMax}
-use Rattle.files.specs.Change.{withList}
 
 -- a size and a head that can stand in a table
 pub record Fitting (size head : ℕ) : Type 0 where

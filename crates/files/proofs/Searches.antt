@@ -5,16 +5,16 @@ use mathlib.Core.List.{List, [], _∷_}
 use mathlib.Core.Option.{none, some}
 use Prim.Native.Nat.{ℕ, zero, suc, _+_, _-_}
 use native.Mathlib.Omega.{arith}
-use lib.ListN.{getD}
 use borrow.Author.Tests.{eq-eqb, ne-eqb}
+use lib.ListN.{getD}
 use Rattle.files.specs.declared.Entry.{Entry}
 use Rattle.files.specs.declared.Found.the-variants as found
 use Rattle.files.specs.Table.{noEntry, searchOf}
 use Rattle.files.specs.Change.{emptyFile, insertOf}
+use Rattle.files.specs.inner.Facts.{slotFor}
 use Rattle.files.proofs.Tests.{ltb-cases, eqb-cases}
 use Rattle.files.proofs.Lists.{stands}
 use Rattle.files.proofs.Others.{fileOf, file-here, file-on, insert-here, insert-on}
-use Rattle.files.specs.inner.Facts.{slotFor}
 
 pub search-here : (i n : ℕ) (e : Entry) (es : List Entry) → e .number ≡ n → searchOf n (e ∷ es) i ≡ found.At i
 unfolding searchOf

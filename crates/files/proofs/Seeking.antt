@@ -3,17 +3,17 @@ use mathlib.Core.Path.{_≡_, refl, sym, ap, _∙_}
 use mathlib.Core.Bool.{true, false, cond}
 use Prim.Native.Nat.{ℕ, zero, suc, _-_, _≤_, _<_, _^_}
 use native.Mathlib.Omega.{arith}
+use borrow.Author.Tests.{le-leb, lt-leb, ltb-true, ltb-false}
 use lib.Dec.{T}
 use lib.IntN.{ℤ, pos, negsuc, _+ℤ_, natAbs}
 use lib.Signed.{mag, ltZ, nonNeg}
 use mir.Syntax.{w32, w64}
 use mir.Val.{Fits, SFits, toZ, ofZ}
 use mir.Facts.{toZ-ofZ, toZ-pos}
-use borrow.Author.Tests.{le-leb, lt-leb, ltb-true, ltb-false}
+use Rattle.layout.specs.Numbers.{sizeMax}
 use Rattle.files.specs.declared.position.Sought.the-variants as sought
 use Rattle.files.specs.Seek.{withinOf, whenceOf}
 use Rattle.files.proofs.Tests.{ltb-cases}
-use Rattle.layout.specs.Numbers.{sizeMax}
 use Rattle.files.proofs.Cases.{seeking}
 
 -- the sum as the code has it, read back from its bits

@@ -3,8 +3,9 @@ use mathlib.Core.Path.{_≡_, refl, sym, ap, _∙_}
 use mathlib.Core.Bool.{true, false}
 use Prim.Native.Nat.{ℕ, _≤_, _<_}
 use native.Mathlib.Omega.{arith}
-use lib.IntN.{ℤ, pos, negsuc, _+ℤ_}
 use borrow.Author.Tests.{le-leb, lt-leb}
+use lib.IntN.{ℤ, pos, negsuc, _+ℤ_}
+use Rattle.layout.specs.Numbers.{sizeMax}
 use Rattle.files.specs.declared.Table.{Table}
 use Rattle.files.specs.declared.Found.the-variants as found
 use Rattle.files.specs.declared.position.Sought.the-variants as sought
@@ -12,7 +13,6 @@ use Rattle.files.specs.Table.{file, findOf}
 use Rattle.files.specs.Seek.{withinOf, whenceOf, seekOf}
 use Rattle.files.proofs.Tests.{leb-cases}
 use Rattle.files.proofs.Cases.{seeking, seek-at}
-use Rattle.layout.specs.Numbers.{sizeMax}
 
 -- what whence adds to: 0, the position, the size
 pub data Base (position size : ℕ) : ℤ → ℕ → Type 0 where

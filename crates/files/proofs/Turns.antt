@@ -4,15 +4,15 @@ use mathlib.Core.List.{List}
 use Prim.Native.Nat.{ℕ, _+_, _-_, _≤_, _<_}
 use native.Mathlib.Omega.{arith}
 use native.Mathlib.Numerals.{add-one}
+use borrow.Author.Tests.{lt-ltb, le-ltb, eq-eqb, ne-eqb}
 use lib.ListN.{length, getD, set}
 use lib.Seq.{slice, slice-cons, sets, length-slice}
-use borrow.Author.Tests.{lt-ltb, le-ltb, eq-eqb, ne-eqb}
 use Rattle.files.specs.declared.Entry.{Entry}
 use Rattle.files.specs.declared.Table.{Table}
 use Rattle.files.specs.declared.Found.the-variants as found
 use Rattle.files.specs.Table.{noEntry, searchOf}
-use Rattle.files.proofs.Laws.{slice-end}
 use Rattle.files.specs.inner.Facts.{appendOf, slotFor}
+use Rattle.files.proofs.Laws.{slice-end}
 
 module _ (fs : List Entry) (i count : ℕ) where
   pub search-here : (number : ℕ) → i < count → count ≤ length fs → getD fs i noEntry .number ≡ number → searchOf number (slice i count fs) i ≡ found.At i

@@ -5,6 +5,8 @@ use Prim.Native.Nat.{ℕ}
 use lib.ListN.{set}
 use lib.Dec.{ltb, eqb}
 use lib.IntN.{ℤ}
+use Rattle.layout.specs.Layout.{BlockList}
+use Rattle.layout.specs.Numbers.{filesMax, nullBlock, accepted, file-exists, invalid, no-file, table-full}
 use Rattle.files.specs.declared.Entry.{Entry}
 use Rattle.files.specs.declared.Table.{Table}
 use Rattle.files.specs.declared.Found.the-variants as found
@@ -12,8 +14,6 @@ use Rattle.files.specs.declared.change.Change.{Change}
 use Rattle.files.specs.declared.change.Change.the-variants as change
 use Rattle.files.specs.declared.change.Changed.{Changed}
 use Rattle.files.specs.Table.{held, file, tableOf, findOf}
-use Rattle.layout.specs.Layout.{BlockList}
-use Rattle.layout.specs.Numbers.{filesMax, nullBlock, accepted, file-exists, invalid, no-file, table-full}
 
 -- an empty file
 abbrev pub emptyFile : ℕ → Entry

@@ -3,12 +3,12 @@ use mathlib.Core.Bool.{true, false}
 use Prim.Native.Nat.{ℕ, zero, suc}
 use lib.Dec.{leb}
 use lib.IntN.{ℤ, pos, negsuc, _+ℤ_}
+use Rattle.layout.specs.Numbers.{sizeMax}
 use Rattle.files.specs.declared.Table.{Table}
 use Rattle.files.specs.declared.Found.the-variants as found
 use Rattle.files.specs.declared.position.Sought.{Sought}
 use Rattle.files.specs.declared.position.Sought.the-variants as sought
 use Rattle.files.specs.Table.{file, findOf}
-use Rattle.layout.specs.Numbers.{sizeMax}
 
 -- a sum below 0 or above the largest size is -22
 unfoldable pub withinOf : ℤ → Sought

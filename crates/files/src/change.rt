@@ -6,13 +6,13 @@ use crate::find;
 use layout::Geometry;
 ghost use mathlib.Core.Path.{_≡_};
 ghost use mathlib.Core.Bool.{true};
-ghost use Prim.Native.Nat.{_+_, _≤_, _<_};
 ghost use mathlib.Core.List.{_∷_, _++_};
+ghost use Prim.Native.Nat.{_+_, _≤_, _<_};
 ghost use lib.ListN.{take, drop};
 ghost use lib.Seq.{slice};
+ghost use Rattle.layout.specs.Numbers.{filesMax};
 ghost use Rattle.files.specs.Table.{held, tableOf, tableOk};
 ghost use Rattle.files.specs.Change.{emptyFile, createOf, removeOf, withList};
-ghost use Rattle.layout.specs.Numbers.{filesMax};
 ghost use Rattle.files.specs.inner.Facts.{appendOf, slotFor, AppendRoom};
 
 // What became of a table, and the table.

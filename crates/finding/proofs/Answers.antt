@@ -7,12 +7,12 @@ use native.Mathlib.Nat.{min-le-left, min-eq-left, min-eq-right}
 use native.Mathlib.Omega.{arith}
 use lib.ListN.{length}
 use Rattle.layout.specs.Layout.{indexAt}
+use Rattle.card.specs.Card.{pointer}
+use Rattle.ctz.specs.inner.Runs.{RunGives}
 use Rattle.finding.specs.inner.Runs.{Tested, Answered, RunSought, Noted}
 use Rattle.finding.proofs.Runs.{passed-none, passed-more, passed-all, tested-on, run-missed, run-noted}
 use Rattle.finding.proofs.Parts.{never-both}
 use Rattle.finding.proofs.Positions.{ordered, tested-clean}
-use Rattle.card.specs.Card.{pointer}
-use Rattle.ctz.specs.inner.Runs.{RunGives}
 
 module _ (image : List ℕ) {B N head size p n room : ℕ} (a : RunSought B N size p n (length image) room) {top first last : ℕ}
     (e : top ≡ indexAt B (size - 1)) (f : first ≡ indexAt B p) (g : last ≡ indexAt B (p + (n - 1)))

@@ -10,19 +10,19 @@ use lib.Dec.{ltb}
 use lib.ListN.{length, take, drop, length-append}
 use lib.Seq.{sets, length-sets}
 use Rattle.span.proofs.Runs.{sets-append}
+use Rattle.layout.specs.inner.Served.{blockList}
+use Rattle.card.specs.inner.Cards.{cardWith}
 use Rattle.card.proofs.Cards.{block-inside}
-use Rattle.ctz.specs.Lookup.{walkTo}
 use Rattle.ctz.specs.declared.Found.{Found}
 use Rattle.ctz.specs.declared.Found.the-variants as found
-use Rattle.ctz.proofs.Lookups.{found-tells, found-answers}
-use Rattle.plain.specs.Reading.{Got, Bytes, before, gather}
-use Rattle.finding.specs.inner.Bounds.{Ranged}
-use Rattle.finding.proofs.Parts.{clean-before, bytes-before, length-part}
-use Rattle.card.specs.inner.Cards.{cardWith}
-use Rattle.layout.specs.inner.Served.{blockList}
+use Rattle.ctz.specs.Lookup.{walkTo}
 use Rattle.ctz.specs.inner.Bounds.{LookupAsked}
+use Rattle.ctz.proofs.Lookups.{found-tells, found-answers}
+use Rattle.plain.specs.Reading.{Bytes, before, gather, Gathered}
 use Rattle.plain.specs.inner.Forms.{range}
+use Rattle.finding.specs.inner.Bounds.{Ranged}
 use Rattle.finding.specs.inner.Runs.{clean, gotBytes}
+use Rattle.finding.proofs.Parts.{clean-before, bytes-before, length-part}
 
 -- what a block that was found gives: at least one byte, the part lies in the block, the block in the image, and the rest is a run too
 pub record Step (B N size p n len k off m : ℕ) : Type 0 where
@@ -79,7 +79,7 @@ module _ (image : List ℕ) (head : ℕ) {B N size : ℕ} where
       go true e found.Refused q ih = rw (gather, e, q)
 
 -- n bytes from position p on
-abbrev all : List ℕ → ℕ → ℕ → ℕ → ℕ → ℕ → ℕ → Got
+abbrev all : List ℕ → ℕ → ℕ → ℕ → ℕ → ℕ → ℕ → Gathered
 all image B N head size p n = gather n (cardWith B N image) (blockList head size) (range p n)
 
 -- ---- how a run of n bytes goes
@@ -89,7 +89,7 @@ unfolding gather
 all-none image B N head size p zero h = refl
 all-none image B N head size p (suc n) h = absurd (omega arith)
 
-pub all-damaged : (image : List ℕ) (B N head size p n : ℕ) → 0 < n → walkTo (cardWith B N image) (blockList head size) p ≡ found.Damaged → all image B N head size p n ≡ Got.Damaged
+pub all-damaged : (image : List ℕ) (B N head size p n : ℕ) → 0 < n → walkTo (cardWith B N image) (blockList head size) p ≡ found.Damaged → all image B N head size p n ≡ Gathered.Damaged
 unfolding gather
 all-damaged image B N head size p zero h e = absurd (omega arith)
 all-damaged image B N head size p (suc n) h e = rw (gather, lt-ltb 0 (suc n) h, e)
@@ -109,10 +109,10 @@ all-turn image head {B} {N} {size} p (suc n) r some {k} {off} m e q =
 
 module _ (image : List ℕ) (head : ℕ) {B N size p n : ℕ} (r : Ranged B N size p n (length image)) (some : 0 < n)
     {k off h : ℕ} (m : ℕ) (e : walkTo (cardWith B N image) (blockList head size) p ≡ found.At k off h) (q : m ≡ min (B - off) n) where
-  abbrev now : Got
+  abbrev now : Gathered
   now = all image B N head size p n
 
-  abbrev later : Got
+  abbrev later : Gathered
   later = all image B N head size (p + m) (n - m)
 
   abbrev part : List ℕ
@@ -148,15 +148,15 @@ module _ (image : List ℕ) (head : ℕ) {B N size p n : ℕ} (r : Ranged B N si
   copy-only buffer after l a =
       let none = all-none image B N head size (p + m) (n - m) l in
       let c = clean-turn ∙ ap clean none in
-      (c, copy-first buffer after after c a (sym (ap (λ (g : Got). sets after m (gotBytes g)) none)))
+      (c, copy-first buffer after after c a (sym (ap (λ (g : Gathered). sets after m (gotBytes g)) none)))
 
 -- ---- what a run gives: exactly as many bytes as were asked for, or -84
 
-pub data Gave (n : ℕ) : Got → Type 0 where
+pub data Gave (n : ℕ) : Gathered → Type 0 where
   copied : (bs : List ℕ) → length bs ≡ n → Gave n (Bytes bs)
-  damaged : Gave n Got.Damaged
+  damaged : Gave n Gathered.Damaged
 
-gave-before : (part : List ℕ) (m n l : ℕ) {g : Got} → length part ≡ m → m + n ≡ l → Gave n g → Gave l (before part g)
+gave-before : (part : List ℕ) (m n l : ℕ) {g : Gathered} → length part ≡ m → m + n ≡ l → Gave n g → Gave l (before part g)
 gave-before part m n l e w (copied bs q) = copied (part ++ bs) (length-append part bs ∙ omega arith)
 gave-before part m n l e w damaged = damaged
 

@@ -7,20 +7,20 @@ use native.Mathlib.Nat.{zero-sub, sub-zero}
 use native.Mathlib.Omega.{arith}
 use lib.ListN.{length, take, drop, length-drop}
 use lib.Seq.{length-take-le, take-take, take-nil, drop-drop}
-use Rattle.plain.specs.Reading.{Got, Bytes, before}
+use Rattle.plain.specs.Reading.{Bytes, before, Gathered}
 use Rattle.finding.specs.inner.Runs.{clean, gotBytes}
 
 -- ---- a part, then the rest
 
-pub clean-before : (part : List ℕ) (g : Got) → clean (before part g) ≡ clean g
+pub clean-before : (part : List ℕ) (g : Gathered) → clean (before part g) ≡ clean g
 clean-before part (Bytes rest) = refl
-clean-before part Got.Damaged = refl
-clean-before part Got.Refused = refl
+clean-before part Gathered.Damaged = refl
+clean-before part Gathered.Refused = refl
 
-pub bytes-before : (part : List ℕ) (g : Got) → clean g ≡ true → gotBytes (before part g) ≡ part ++ gotBytes g
+pub bytes-before : (part : List ℕ) (g : Gathered) → clean g ≡ true → gotBytes (before part g) ≡ part ++ gotBytes g
 bytes-before part (Bytes rest) e = refl
-bytes-before part Got.Damaged e = let z : _≡_ {A = ℕ} 0 1 = cc in absurd (omega arith)
-bytes-before part Got.Refused e = let z : _≡_ {A = ℕ} 0 1 = cc in absurd (omega arith)
+bytes-before part Gathered.Damaged e = let z : _≡_ {A = ℕ} 0 1 = cc in absurd (omega arith)
+bytes-before part Gathered.Refused e = let z : _≡_ {A = ℕ} 0 1 = cc in absurd (omega arith)
 
 pub never-both : {b : Bool} → b ≡ true → b ≡ false → ⊥
 never-both t f = let z : _≡_ {A = ℕ} 0 1 = cc in omega arith

@@ -10,25 +10,25 @@ use borrow.Author.Tests.{ltb-true, ltb-false}
 use lib.Dec.{ltb}
 use lib.ListN.{length}
 use Rattle.layout.specs.Layout.{indexAt, offsetAt, pointers}
+use Rattle.layout.specs.inner.Served.{Served, blockList}
 use Rattle.layout.proofs.Places.{Next, Same, next-place, index-mono, offset-inside}
 use Rattle.layout.proofs.Served.{served, index-in, index-below}
-use Rattle.ctz.specs.Lookup.{walkTo}
+use Rattle.card.specs.Card.{pointer}
+use Rattle.card.specs.inner.Cards.{cardWith}
 use Rattle.ctz.specs.declared.Found.{Found}
 use Rattle.ctz.specs.declared.Found.the-variants as found
+use Rattle.ctz.specs.Lookup.{walkTo}
+use Rattle.ctz.specs.inner.Runs.{seek, Finds}
 use Rattle.ctz.proofs.Lookups.{walk-is, found-tells}
 use Rattle.ctz.proofs.Room.{walks}
 use Rattle.ctz.proofs.Through.{walk-offset}
 use Rattle.plain.specs.Reading.{gather}
+use Rattle.plain.specs.inner.Forms.{range}
 use Rattle.plain.proofs.Indexes.{run-index, run-offset}
 use Rattle.finding.specs.inner.Bounds.{Ranged}
 use Rattle.finding.specs.inner.Runs.{Reached, Tested, Indexed, clean}
 use Rattle.finding.proofs.Parts.{never-both}
 use Rattle.finding.proofs.Gathers.{sought, never-refused, step, clean-turn, all-none, all-damaged}
-use Rattle.layout.specs.inner.Served.{Served, blockList}
-use Rattle.card.specs.Card.{pointer}
-use Rattle.card.specs.inner.Cards.{cardWith}
-use Rattle.ctz.specs.inner.Runs.{seek, Finds}
-use Rattle.plain.specs.inner.Forms.{range}
 
 -- the list of a run of positions can be walked
 pub indexed : {B N size p n len : ℕ} → Ranged B N size p n len → 0 < n → {top last : ℕ} → top ≡ indexAt B (size - 1) → last ≡ indexAt B (p + (n - 1))

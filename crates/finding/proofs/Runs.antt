@@ -8,11 +8,11 @@ use native.Mathlib.Omega.{arith}
 use borrow.Author.Tests.{ltb-true, ltb-false}
 use lib.Dec.{ltb}
 use lib.ListN.{getD}
+use Rattle.card.specs.Card.{pointer}
 use Rattle.ctz.specs.declared.Found.the-variants as found
+use Rattle.ctz.specs.inner.Runs.{Finds, RunGives}
 use Rattle.finding.specs.inner.Runs.{Tested, Held, Notable}
 use Rattle.finding.proofs.Parts.{never-both}
-use Rattle.card.specs.Card.{pointer}
-use Rattle.ctz.specs.inner.Runs.{Finds, RunGives}
 
 -- ---- a run, then the next
 

@@ -3,8 +3,8 @@ pub mod numbers;
 
 use crate::numbers::least;
 ghost use lib.ListN.{length};
-ghost use Rattle.finding.specs.inner.Runs.{Indexed, Tested, Answered, Notable, Held, Turning, Turned, RunSought};
 ghost use Rattle.card.specs.Card.{pointer};
+ghost use Rattle.finding.specs.inner.Runs.{Indexed, Tested, Answered, Notable, Held, Turning, Turned, RunSought};
 
 // Whether the lookups of the indexes from `first` to `last` find their blocks.
 fn found_from(b: u32, n: u32, image: &[u8], head: u32, top: u32, first: u32, last: u32) -> bool

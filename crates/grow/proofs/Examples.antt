@@ -6,6 +6,7 @@ use lib.Count.{trailingZeros}
 use lib.ListN.{replicate}
 use Rattle.span.specs.Words.{bytes32, wordAt}
 use Rattle.layout.specs.Layout.{pointers, capacity, start, indexAt, offsetAt}
+use Rattle.card.specs.Card.{pointer}
 use Rattle.device.specs.Device.{stored, wiped}
 use Rattle.trials.specs.Steps.{done, series, programs}
 use Rattle.trials.specs.Trial.{takenBy}
@@ -13,7 +14,6 @@ use Rattle.trials.specs.Loop.{Took, Block, tried, followed, turnOf, writeBy}
 use Rattle.grow.specs.declared.Growth.the-variants.{Grown, Full, Damaged}
 use Rattle.grow.specs.Growth.{links, growth}
 use Rattle.grow.specs.Extend.{GrowOut, grow-out, growing, grewBy}
-use Rattle.card.specs.Card.{pointer}
 
 abbrev filled : ℕ → List ℕ
 filled v = replicate 16 v

@@ -4,6 +4,7 @@ use mathlib.Core.List.{List}
 use Prim.Native.Nat.{ℕ, suc, _-_, _<_}
 use native.Mathlib.Omega.{arith}
 use lib.ListN.{length}
+use Rattle.card.specs.inner.Cards.{cardWith}
 use Rattle.files.specs.declared.Table.{Table}
 use Rattle.window.specs.declared.Lookahead.{Lookahead}
 use Rattle.window.specs.declared.Got.the-variants as got
@@ -11,25 +12,24 @@ use Rattle.window.specs.declared.Taken.{Taken}
 use Rattle.window.specs.declared.Answer.the-variants as answer
 use Rattle.window.specs.declared.Allocated.{Allocated}
 use Rattle.window.specs.Allocate.{takeOf, allocOf}
+use Rattle.window.specs.inner.Facts.{ValidWindow, scope}
 use Rattle.alloc.specs.Visits.{seenIn}
+use Rattle.alloc.specs.inner.Facts.{Ready}
 use Rattle.alloc.proofs.Turning.{allocating, answers-block}
+use Rattle.trials.specs.Loop.{Block}
 use Rattle.grow.specs.declared.Growth.{Growth}
 use Rattle.grow.specs.declared.Growth.the-variants.{Full, Damaged}
 use Rattle.grow.specs.declared.Grew.{Grew}
 use Rattle.grow.specs.declared.block.Linked.{Linked}
 use Rattle.grow.specs.declared.block.Linked.the-variants.{Done, Spoiled}
-use Rattle.grow.specs.inner.Attempt.{tryOf, LinkGives, Linking}
 use Rattle.grow.specs.Extend.{GrowOut, grow-out}
+use Rattle.grow.specs.inner.Attempt.{tryOf, LinkGives, Linking}
+use Rattle.grow.specs.inner.Grow.{growOf}
+use Rattle.grow.specs.inner.Extend.{windowAlloc, extendIn, Extending}
+use Rattle.grow.specs.inner.Gives.{GrewGives}
 use Rattle.grow.proofs.Turns.{grow-none, grow-bad}
 use Rattle.grow.proofs.Tries.{grow-done, grow-moves}
 use Rattle.grow.proofs.Takes.{Outcome, allocated, took-block, took-none, took-bad, took-refused}
-use Rattle.trials.specs.Loop.{Block}
-use Rattle.grow.specs.inner.Grow.{growOf}
-use Rattle.grow.specs.inner.Extend.{windowAlloc, extendIn, Extending}
-use Rattle.window.specs.inner.Facts.{ValidWindow, scope}
-use Rattle.alloc.specs.inner.Facts.{Ready}
-use Rattle.card.specs.inner.Cards.{cardWith}
-use Rattle.grow.specs.inner.Gives.{GrewGives}
 
 -- window w and image img, in the middle of a growth from window w₀ and image img₀
 pub record Rest (B N l : ℕ) (health : List ℕ) (t : Table) (w₀ : Lookahead) (head s : ℕ) (img₀ : List ℕ) (w : Lookahead) (img : List ℕ) : Type 0 where

@@ -6,14 +6,20 @@ use mathlib.Core.List.{List}
 use Prim.Native.Nat.{ℕ, zero, suc, _+_, _-_, _*_, _≤_, _<_}
 use native.Mathlib.Nat.{min-le-left}
 use native.Mathlib.Omega.{arith}
+use borrow.Author.Tests.{ltb-true, ltb-false, eqb-true, eqb-false}
 use lib.Dec.{ltb, eqb}
 use lib.ListN.{length, drop, length-take}
-use borrow.Author.Tests.{ltb-true, ltb-false, eqb-true, eqb-false}
-use Rattle.layout.specs.Layout.{pointers, indexAt, offsetAt}
-use Rattle.layout.proofs.Served.{wide}
 use Rattle.span.specs.Words.{bytes32}
 use Rattle.span.proofs.Words.{length-bytes32}
+use Rattle.layout.specs.Layout.{pointers, indexAt, offsetAt}
+use Rattle.layout.specs.Numbers.{sizeMax}
+use Rattle.layout.specs.inner.Served.{BlockSized}
+use Rattle.layout.proofs.Served.{wide}
+use Rattle.card.specs.Card.{pointer}
+use Rattle.card.specs.inner.Cards.{cardWith}
+use Rattle.health.specs.Health.{refusesErase}
 use Rattle.device.specs.Device.{stored, wiped}
+use Rattle.device.specs.inner.Bounds.{spot, Blank}
 use Rattle.device.proofs.Blanks.{blank-wiped, blank-part, blank-stored}
 use Rattle.files.specs.declared.Table.{Table}
 use Rattle.window.specs.declared.Lookahead.{Lookahead}
@@ -21,23 +27,17 @@ use Rattle.window.specs.declared.Answer.{Answer}
 use Rattle.window.specs.declared.Answer.the-variants as answer
 use Rattle.window.specs.declared.Allocated.{Allocated}
 use Rattle.window.specs.Allocate.{allocOf}
+use Rattle.window.specs.inner.Facts.{ValidWindow, scope}
 use Rattle.alloc.specs.Visits.{seenIn}
+use Rattle.trials.specs.Loop.{Block}
 use Rattle.grow.specs.declared.Growth.{Growth}
 use Rattle.grow.specs.declared.Growth.the-variants.{Grown, Full, Damaged}
 use Rattle.grow.specs.Extend.{GrowOut, grow-out}
+use Rattle.grow.specs.inner.Grow.{part, pointersOf, linkOf, spoils, growOf}
+use Rattle.grow.specs.inner.Extend.{windowAlloc, extendIn, Extending}
 use Rattle.grow.proofs.Links.{link-empty, link-damaged, link-copied, link-pointers, link-rest, used-fits, next-room}
 use Rattle.grow.proofs.Turns.{grow-none, grow-bad, grow-kept, grow-spoiled, grow-linked}
 use Rattle.grow.proofs.Takes.{Outcome, allocated, took-block, took-none, took-bad, took-refused}
-use Rattle.layout.specs.Numbers.{sizeMax}
-use Rattle.trials.specs.Loop.{Block}
-use Rattle.grow.specs.inner.Grow.{part, pointersOf, linkOf, spoils, growOf}
-use Rattle.grow.specs.inner.Extend.{windowAlloc, extendIn, Extending}
-use Rattle.layout.specs.inner.Served.{BlockSized}
-use Rattle.card.specs.Card.{pointer}
-use Rattle.device.specs.inner.Bounds.{spot, Blank}
-use Rattle.window.specs.inner.Facts.{ValidWindow, scope}
-use Rattle.card.specs.inner.Cards.{cardWith}
-use Rattle.health.specs.Health.{refusesErase}
 
 -- the ways of an answer that a link gives for block k, with its image: made, with erased room in the block, or -84
 pub data Ends (B k : ℕ) : Growth → List ℕ → Type 0 where

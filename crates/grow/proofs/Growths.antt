@@ -9,17 +9,17 @@ use borrow.Author.Tests.{ltb-true, eqb-true, eq-eqb, ne-eqb}
 use lib.Dec.{ltb, eqb}
 use lib.ListN.{length}
 use Rattle.layout.specs.Layout.{pointers, start, indexAt, offsetAt}
+use Rattle.layout.specs.inner.Served.{BlockSized}
 use Rattle.layout.proofs.Places.{offset-inside, offset-past, next-place, Same, Next}
 use Rattle.layout.proofs.Served.{served, index-in}
+use Rattle.card.specs.inner.Cards.{CardFacts}
 use Rattle.device.specs.Device.{stored}
 use Rattle.trials.specs.Trial.{Trial, Whole, Fault, ends, whole}
+use Rattle.trials.specs.Loop.{Candidate}
 use Rattle.trials.proofs.Laws.{tryAt}
 use Rattle.grow.specs.Growth.{index, offset, Link, links, growth}
 use Rattle.grow.specs.inner.Grow.{part, linkOf}
 use Rattle.grow.proofs.Pointed.{part-block, part-length, given, links-nested, links-length, links-lost, links-some, links-ends, pointers-some}
-use Rattle.layout.specs.inner.Served.{BlockSized}
-use Rattle.card.specs.inner.Cards.{CardFacts}
-use Rattle.trials.specs.Loop.{Candidate}
 
 -- ---- the growth
 

@@ -6,28 +6,28 @@ use mathlib.Core.List.{List}
 use Prim.Native.Nat.{ℕ, zero, suc, _+_, _*_, _^_, _≤_, _<_}
 use native.Mathlib.Numerals.{add-one}
 use native.Mathlib.Omega.{arith}
+use borrow.Author.Tests.{lt-ltb, le-ltb, eq-eqb, ne-eqb}
 use lib.Dec.{ltb, eqb}
 use lib.ListN.{take, drop}
-use borrow.Author.Tests.{lt-ltb, le-ltb, eq-eqb, ne-eqb}
 use Rattle.layout.specs.Layout.{pointers, indexAt, offsetAt}
+use Rattle.layout.specs.Numbers.{sizeMax}
+use Rattle.layout.specs.inner.Served.{BlockSized, Served}
 use Rattle.layout.proofs.Places.{Same, Next, next-place, offset-inside}
 use Rattle.layout.proofs.Laws.{pointers-pos}
 use Rattle.layout.proofs.Served.{served, index-in, index-below, pointers-fit}
 use Rattle.device.specs.declared.Programmed.{Programmed}
 use Rattle.device.specs.declared.Programmed.the-variants.{Stored, Refused}
 use Rattle.device.specs.Device.{stored}
+use Rattle.device.specs.inner.Bounds.{spot}
+use Rattle.device.specs.inner.Steps.{programOf, ProgramGives}
 use Rattle.device.proofs.Steps.{told-stored, told-refused}
 use Rattle.grow.specs.declared.Growth.the-variants.{Grown, Damaged}
 use Rattle.grow.specs.declared.block.Linked.the-variants.{Done, Spoiled}
+use Rattle.grow.specs.Extend.{grow-out}
 use Rattle.grow.specs.inner.Attempt.{attemptOf, putPointers}
+use Rattle.grow.specs.inner.Grow.{part, pointersOf, linkOf, spoils}
 use Rattle.grow.proofs.Spoils.{spoils-stored, spoils-empty, spoils-damaged, spoils-refused, spoils-some}
 use Rattle.grow.proofs.Pointers.{pointers-rest}
-use Rattle.layout.specs.Numbers.{sizeMax}
-use Rattle.grow.specs.Extend.{grow-out}
-use Rattle.grow.specs.inner.Grow.{part, pointersOf, linkOf, spoils}
-use Rattle.layout.specs.inner.Served.{BlockSized, Served}
-use Rattle.device.specs.inner.Bounds.{spot}
-use Rattle.device.specs.inner.Steps.{programOf, ProgramGives}
 
 module _ {W : Type 0} (B N k head : ℕ) (img : List ℕ) (w : W) where
   -- size 0 stops there with offset 0

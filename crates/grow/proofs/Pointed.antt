@@ -10,18 +10,18 @@ use lib.ListN.{length, take, drop, length-take, length-drop}
 use lib.Seq.{take-take, drop-drop}
 use Rattle.span.specs.Words.{bytes32}
 use Rattle.layout.specs.Layout.{pointers}
+use Rattle.card.specs.Card.{blockOf}
+use Rattle.card.specs.inner.Cards.{CardFacts}
 use Rattle.card.proofs.Cards.{block-inside}
 use Rattle.device.specs.Device.{stored}
 use Rattle.device.proofs.Frame.{stored-append}
 use Rattle.trials.specs.Trial.{Trial, Ending, Whole, Fault, Refused, ends}
+use Rattle.trials.specs.Loop.{Candidate}
 use Rattle.grow.specs.declared.Growth.{Growth}
 use Rattle.grow.specs.declared.Growth.the-variants.{Grown, Damaged}
 use Rattle.grow.specs.Growth.{with, Link, linked, following, links}
 use Rattle.grow.specs.Extend.{GrowOut, grow-out}
 use Rattle.grow.specs.inner.Grow.{part, pointersOf}
-use Rattle.card.specs.inner.Cards.{CardFacts}
-use Rattle.card.specs.Card.{blockOf}
-use Rattle.trials.specs.Loop.{Candidate}
 
 -- ---- n bytes of a block from offset o on
 

@@ -5,24 +5,24 @@ use mathlib.Core.List.{List}
 use Prim.Native.Nat.{ℕ, zero, suc, _+_, _*_, _-_, _≤_, _<_}
 use native.Mathlib.Numerals.{add-one}
 use native.Mathlib.Omega.{arith}
-use lib.Dec.{ltb}
 use borrow.Author.Tests.{lt-ltb, le-ltb}
+use lib.Dec.{ltb}
 use Rattle.span.specs.Words.{bytes32}
 use Rattle.span.proofs.Words.{length-bytes32}
+use Rattle.card.specs.Card.{pointer}
 use Rattle.device.specs.declared.Programmed.{Programmed}
 use Rattle.device.specs.declared.Programmed.the-variants.{Stored, Refused}
 use Rattle.device.specs.Device.{stored}
+use Rattle.device.specs.inner.Bounds.{spot, Blank}
+use Rattle.device.specs.inner.Steps.{programOf, ProgramGives}
 use Rattle.device.proofs.Steps.{told-stored, told-refused}
 use Rattle.device.proofs.Blanks.{blank-part, blank-programmed}
 use Rattle.grow.specs.declared.Growth.the-variants.{Grown, Damaged}
 use Rattle.grow.specs.declared.block.Linked.the-variants.{Done, Spoiled}
-use Rattle.grow.proofs.Spoils.{spoils-stored, spoils-empty, spoils-damaged, spoils-refused}
 use Rattle.grow.specs.Extend.{grow-out}
 use Rattle.grow.specs.inner.Grow.{pointersOf}
-use Rattle.card.specs.Card.{pointer}
-use Rattle.device.specs.inner.Bounds.{spot, Blank}
-use Rattle.device.specs.inner.Steps.{programOf, ProgramGives}
 use Rattle.grow.specs.inner.Attempt.{putPointers}
+use Rattle.grow.proofs.Spoils.{spoils-stored, spoils-empty, spoils-damaged, spoils-refused}
 
 module _ {W : Type 0} (m B N k off x cur : ℕ) (img : List ℕ) (w : W) where
   -- all pointers are there

@@ -5,12 +5,12 @@ use Prim.Native.Nat.{ℕ, _+_, _*_, _≤_, _<_}
 use native.Mathlib.Nat.{mul-comm}
 use native.Mathlib.Omega.{arith}
 use lib.ListN.{length}
+use Rattle.card.specs.inner.Cards.{PointerAsked}
 use Rattle.card.proofs.Cards.{block-inside}
+use Rattle.device.specs.inner.Bounds.{BlockIn, RoomIn, CopyFrom}
 use Rattle.device.proofs.Bounds.{same-offset}
 use Rattle.grow.specs.declared.block.Linked.{Linked}
 use Rattle.grow.specs.inner.Attempt.{LinkOut, LinkGives, Linking}
-use Rattle.card.specs.inner.Cards.{PointerAsked}
-use Rattle.device.specs.inner.Bounds.{BlockIn, RoomIn, CopyFrom}
 
 -- an erase of block k
 pub block-of : {B N k : ℕ} {img health : List ℕ} → Linking B N k img health → BlockIn B k img health

@@ -9,13 +9,17 @@ use borrow.Author.Tests.{ltb-true, ltb-false, lt-ltb, le-ltb}
 use lib.Dec.{ltb}
 use lib.ListN.{length}
 use Rattle.layout.specs.Layout.{offsetAt}
+use Rattle.card.specs.inner.Cards.{CardFacts, cardWith}
+use Rattle.health.specs.Health.{refusesErase, refusesProgram}
 use Rattle.device.specs.Device.{stored, wiped}
+use Rattle.device.specs.inner.Bounds.{spot}
 use Rattle.device.proofs.Frame.{wiped-length}
 use Rattle.files.specs.declared.Table.{Table}
 use Rattle.window.specs.declared.Lookahead.{Lookahead}
 use Rattle.window.specs.declared.Answer.{Answer}
 use Rattle.window.specs.declared.Answer.the-variants as answer
 use Rattle.window.specs.Allocate.{allocOf}
+use Rattle.window.specs.inner.Facts.{ValidWindow, scope}
 use Rattle.alloc.specs.Visits.{seenIn}
 use Rattle.trials.specs.Trial.{Trial, Ending, Whole, Fault, Refused, ends, whole, takenBy}
 use Rattle.trials.specs.Loop.{Took, Block, None, Bad, Flash, WriteOut, writeBy, Candidate}
@@ -34,10 +38,6 @@ use Rattle.grow.proofs.Takes.{allocated}
 use Rattle.grow.proofs.Tests.{extending}
 use Rattle.grow.proofs.Pointed.{given}
 use Rattle.grow.proofs.Growths.{link-nested, growth-ends, growth-some, growth-lost, growth-first}
-use Rattle.card.specs.inner.Cards.{CardFacts, cardWith}
-use Rattle.device.specs.inner.Bounds.{spot}
-use Rattle.window.specs.inner.Facts.{ValidWindow, scope}
-use Rattle.health.specs.Health.{refusesErase, refusesProgram}
 
 -- ---- the window comes to an end
 

@@ -3,10 +3,10 @@ use mathlib.Core.Path.{_≡_}
 use mathlib.Core.Bool.{true, false, _&&_, and-false}
 use mathlib.Core.List.{List}
 use Prim.Native.Nat.{ℕ, _≤_, _<_}
-use lib.Dec.{ltb}
 use borrow.Author.Tests.{lt-ltb, le-ltb}
-use Rattle.grow.specs.inner.Grow.{spoils}
+use lib.Dec.{ltb}
 use Rattle.health.specs.Health.{refusesProgram}
+use Rattle.grow.specs.inner.Grow.{spoils}
 
 module _ (health : List ℕ) (N k head s : ℕ) where
   -- the block takes programs

@@ -1,10 +1,11 @@
 -- One allocation: the window stays valid; a block that is handed out is below N, and the checkpoint count falls. Assumes nothing.
 use mathlib.Core.Path.{_≡_, refl, ap}
 use mathlib.Core.Bool.{Bool, true, false}
+use mathlib.Core.List.{List}
 use Prim.Native.Nat.{ℕ, zero, suc, _+_, _%_, _≤_, _<_}
 use native.Mathlib.Nat.{mod-lt}
 use native.Mathlib.Omega.{arith}
-use mathlib.Core.List.{List}
+use Rattle.card.specs.inner.Cards.{cardWith}
 use Rattle.files.specs.declared.Table.{Table}
 use Rattle.window.specs.declared.Lookahead.{Lookahead}
 use Rattle.window.specs.declared.Got.{Got}
@@ -14,14 +15,13 @@ use Rattle.window.specs.declared.Answer.the-variants as answer
 use Rattle.window.specs.declared.Allocated.{Allocated}
 use Rattle.window.specs.Allocate.{freeFrom, takeCase, takeOf, onScan, onGot, usedUp, allocBy, allocOf}
 use Rattle.window.specs.Scan.{Seen, cleared, markOn, scanCase, scanOf}
-use Rattle.alloc.specs.Visits.{seenIn}
+use Rattle.window.specs.inner.Facts.{ValidWindow, scope}
 use Rattle.window.proofs.Cases.{ltb-cases, eqb-cases}
 use Rattle.window.proofs.Search.{free-stops}
 use Rattle.window.proofs.Kept.{cleared-valid, map-valid, dropped-valid, take-valid, take-empty}
+use Rattle.alloc.specs.Visits.{seenIn}
 use Rattle.trials.specs.Loop.{Block, None, Bad}
 use Rattle.grow.specs.inner.Extend.{windowAlloc}
-use Rattle.window.specs.inner.Facts.{ValidWindow, scope}
-use Rattle.card.specs.inner.Cards.{cardWith}
 
 -- an allocation from that count
 pub record Outcome (n l count : ℕ) (a : Allocated) : Type 0 where

@@ -4,9 +4,11 @@ use mathlib.Core.Bool.{Bool, not, true, false, and-eq-true-iff}
 use mathlib.Core.List.{List}
 use Prim.Native.Nat.{ℕ, _≤_}
 use native.Mathlib.Nat.{le-of-eq}
+use borrow.Author.Tests.{leb-true, not-true, not-false}
 use lib.Dec.{leb}
 use lib.ListN.{length}
-use borrow.Author.Tests.{leb-true, not-true, not-false}
+use Rattle.layout.specs.Numbers.{sizeMax}
+use Rattle.layout.specs.inner.Served.{geometry}
 use Rattle.card.specs.Card.{goodCard}
 use Rattle.card.proofs.Cards.{card}
 use Rattle.health.specs.Health.{healthOk}
@@ -15,13 +17,11 @@ use Rattle.files.specs.declared.Table.{Table}
 use Rattle.files.specs.Table.{tableOk}
 use Rattle.window.specs.declared.Lookahead.{Lookahead}
 use Rattle.window.specs.Value.{lookaheadFits, validOf}
+use Rattle.window.specs.inner.Facts.{scope}
 use Rattle.window.proofs.Valid.{looks}
 use Rattle.alloc.proofs.Tested.{ready}
-use Rattle.layout.specs.Numbers.{sizeMax}
-use Rattle.grow.specs.inner.Extend.{extendTested, Extending}
-use Rattle.layout.specs.inner.Served.{geometry}
-use Rattle.window.specs.inner.Facts.{scope}
 use Rattle.grow.specs.Setting.{testedOf}
+use Rattle.grow.specs.inner.Extend.{extendTested, Extending}
 
 -- a test that the code turns round: r is what the tested call answered
 pub held : {r x : Bool} → r ≡ x → not r ≡ false → x ≡ true

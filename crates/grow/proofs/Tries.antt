@@ -4,25 +4,25 @@ use mathlib.Core.Bool.{Bool, true, false}
 use mathlib.Core.List.{List}
 use Prim.Native.Nat.{ℕ, suc}
 use native.Mathlib.Omega.{arith}
-use lib.ListN.{getD}
 use borrow.Author.Tests.{ne-eqb}
+use lib.ListN.{getD}
+use Rattle.health.specs.Health.{refusesErase}
 use Rattle.device.specs.declared.Erased.{Erased}
 use Rattle.device.specs.declared.Erased.the-variants.{Wiped, Kept}
 use Rattle.device.specs.Device.{wiped}
+use Rattle.device.specs.inner.Steps.{eraseOf, EraseGives}
 use Rattle.device.proofs.Steps.{told-wiped, told-kept}
 use Rattle.window.proofs.Cases.{no-both}
+use Rattle.trials.specs.Loop.{Took, Block}
 use Rattle.grow.specs.declared.Growth.{Growth}
 use Rattle.grow.specs.declared.block.Linked.{Linked}
 use Rattle.grow.specs.declared.block.Linked.the-variants.{Done, Spoiled}
+use Rattle.grow.specs.Extend.{grow-out}
 use Rattle.grow.specs.inner.Attempt.{LinkOut, LinkGives, attemptOf, tryOf}
+use Rattle.grow.specs.inner.Grow.{linkOf, spoils, growOf}
 use Rattle.grow.proofs.Links.{link-rest}
 use Rattle.grow.proofs.Spoils.{spoils-stored}
 use Rattle.grow.proofs.Turns.{grow-kept, grow-spoiled, grow-linked}
-use Rattle.trials.specs.Loop.{Took, Block}
-use Rattle.grow.specs.Extend.{grow-out}
-use Rattle.grow.specs.inner.Grow.{linkOf, spoils, growOf}
-use Rattle.device.specs.inner.Steps.{eraseOf, EraseGives}
-use Rattle.health.specs.Health.{refusesErase}
 
 module _ (health : List ℕ) (B N k head s : ℕ) (img : List ℕ) where
   -- r is the device's answer to the erase, img′ the image that it left

@@ -3,12 +3,12 @@ use mathlib.Core.Path.{_≡_}
 use mathlib.Core.Bool.{true, false}
 use mathlib.Core.List.{List}
 use Prim.Native.Nat.{ℕ, suc}
+use Rattle.health.specs.Health.{refusesErase}
 use Rattle.device.specs.Device.{wiped}
-use Rattle.grow.specs.declared.Growth.the-variants.{Full, Damaged}
 use Rattle.trials.specs.Loop.{Took, Block, None, Bad}
+use Rattle.grow.specs.declared.Growth.the-variants.{Full, Damaged}
 use Rattle.grow.specs.Extend.{grow-out}
 use Rattle.grow.specs.inner.Grow.{linkOf, spoils, growOf}
-use Rattle.health.specs.Health.{refusesErase}
 
 module _ {W : Type 0} (alloc : W → List ℕ → Took W) (m : ℕ) (w w′ : W) (health : List ℕ) (B N head s : ℕ) (img : List ℕ) where
   -- no block is left

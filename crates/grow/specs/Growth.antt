@@ -7,9 +7,9 @@ use lib.Dec.{eqb, ltb}
 use lib.ListN.{take}
 use Rattle.span.specs.Words.{bytes32}
 use Rattle.layout.specs.Layout.{pointers, indexAt, offsetAt}
+use Rattle.card.specs.Card.{pointer, blockOf}
 use Rattle.device.specs.Device.{stored}
 use Rattle.trials.specs.Trial.{Trial, Fault, ends, whole, more}
-use Rattle.card.specs.Card.{pointer, blockOf}
 use Rattle.trials.specs.Loop.{Candidate}
 
 -- the new block's index, and where in it the next byte of the file goes

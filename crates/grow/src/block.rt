@@ -3,9 +3,9 @@ use crate::Growth;
 use device::Erased;
 use device::Programmed;
 ghost use Prim.Native.Nat.{_*_, _≤_};
-ghost use Rattle.grow.specs.inner.Attempt.{attemptOf, tryOf, LinkGives, Linking, putPointers};
 ghost use Rattle.layout.specs.Numbers.{sizeMax};
 ghost use Rattle.device.specs.inner.Bounds.{Blank};
+ghost use Rattle.grow.specs.inner.Attempt.{attemptOf, tryOf, LinkGives, Linking, putPointers};
 
 // What a try with one block gives: the growth's answer, or that the block refused.
 pub enum Linked {

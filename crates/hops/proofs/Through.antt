@@ -7,10 +7,10 @@ use native.Mathlib.Decide.{decLt}
 use native.Mathlib.Omega.{arith}
 use lib.Pow.{pow-pos}
 use Rattle.hops.specs.Walk.{ctz, jump}
+use Rattle.hops.specs.inner.Ways.{way}
 use Rattle.hops.proofs.Powers.{pow-dvd, dvd-down, pow-below, clears}
 use Rattle.hops.proofs.Digits.{dvd-of-ctz, ctz-of-dvd}
 use Rattle.hops.proofs.Greedy.{Best, pick-best}
-use Rattle.hops.specs.inner.Ways.{way}
 
 -- one hop up by the lowest set digit makes the next power divide
 carries : (x i : ℕ) → 0 < i → 2 ^ x ∣ i → ¬ (2 ^ suc x ∣ i) → 2 ^ suc x ∣ i + 2 ^ x

@@ -6,9 +6,9 @@ use native.Mathlib.Nat.{min-le-left, min-le-right}
 use native.Mathlib.Omega.{arith}
 use lib.ListN.{length, take, drop, replicate, length-take, length-drop, length-replicate}
 use Rattle.device.specs.declared.Programmed.{Programmed}
-use Rattle.device.proofs.Blanks.{blank-part, blank-stored, blank-programmed}
 use Rattle.device.specs.inner.Steps.{programOf, ProgramGives}
 use Rattle.device.specs.inner.Bounds.{Blank}
+use Rattle.device.proofs.Blanks.{blank-part, blank-stored, blank-programmed}
 use Rattle.new_block.specs.inner.Fill.{fronted}
 
 -- gap and data end where the data ends

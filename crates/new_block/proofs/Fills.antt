@@ -9,24 +9,24 @@ use borrow.Author.Tests.{leb-true, leb-false}
 use lib.Dec.{leb}
 use lib.ListN.{length, take, drop, replicate, length-drop, drop-of-length-le}
 use lib.Seq.{take-all, take-nil}
+use Rattle.layout.specs.Numbers.{sizeMax}
+use Rattle.health.specs.Health.{refusesProgram}
 use Rattle.device.specs.declared.Programmed.{Programmed}
 use Rattle.device.specs.declared.Programmed.the-variants.{Stored, Refused}
 use Rattle.device.specs.Device.{stored}
+use Rattle.device.specs.inner.Bounds.{spot, RoomIn, Blank}
+use Rattle.device.specs.inner.Steps.{ProgramOut, programOf, ProgramGives}
 use Rattle.device.proofs.Blanks.{blank-part}
 use Rattle.device.proofs.Steps.{program-stored, told-stored, told-refused}
 use Rattle.files.specs.declared.Entry.{Entry}
 use Rattle.grow.specs.inner.Attempt.{Linking}
 use Rattle.grow.proofs.Rooms.{room-of}
+use Rattle.old_list.specs.Write.{Job, over, new, Look, jobOf}
+use Rattle.old_list.specs.inner.Lookups.{lookIn}
 use Rattle.new_block.specs.declared.Filled.{Filled}
 use Rattle.new_block.specs.declared.Filled.the-variants.{Spoiled}
-use Rattle.old_list.specs.Write.{Job, over, new, Look, jobOf}
 use Rattle.new_block.specs.inner.Fill.{frontOf, FillOut, share, tailOf, fillOf, FillGives, Tailing, Filling, fronted}
 use Rattle.new_block.proofs.Blanks.{front-blank}
-use Rattle.layout.specs.Numbers.{sizeMax}
-use Rattle.device.specs.inner.Bounds.{spot, RoomIn, Blank}
-use Rattle.device.specs.inner.Steps.{ProgramOut, programOf, ProgramGives}
-use Rattle.old_list.specs.inner.Lookups.{lookIn}
-use Rattle.health.specs.Health.{refusesProgram}
 
 -- ---- a run of the data, cut to what there is
 

@@ -6,21 +6,22 @@ use native.Mathlib.Omega.{arith}
 use borrow.Author.Tests.{lt-ltb, le-ltb}
 use lib.ListN.{length, take, drop}
 use Rattle.device.specs.declared.Programmed.{Programmed}
+use Rattle.device.specs.inner.Steps.{ProgramOut, programOf, ProgramGives}
+use Rattle.device.specs.inner.Bounds.{RoomIn, CopyFrom, Blank}
 use Rattle.device.proofs.Steps.{program-stored}
+use Rattle.ctz.specs.inner.Bounds.{ListFacts}
 use Rattle.files.specs.declared.Entry.{Entry}
 use Rattle.grow.specs.inner.Attempt.{Linking}
+use Rattle.grow.specs.inner.Grow.{part}
 use Rattle.grow.proofs.Rooms.{room-of, source-of}
-use Rattle.new_block.specs.declared.Filled.the-variants.{Done, Damaged}
 use Rattle.old_list.specs.declared.Looked.{Looked}
 use Rattle.old_list.specs.declared.Looked.the-variants as looked-as
 use Rattle.old_list.specs.Write.{Look}
-use Rattle.old_list.specs.inner.Lookups.{lookedOf, Looking, lookIn}
-use Rattle.new_block.specs.inner.Fill.{tailOf, FillGives, Tailing, tailed}
+use Rattle.old_list.specs.inner.Lookups.{lookedOf, lookIn}
 use Rattle.old_list.proofs.Looks.{told-block, told-lost, look-below}
+use Rattle.new_block.specs.declared.Filled.the-variants.{Done, Damaged}
+use Rattle.new_block.specs.inner.Fill.{tailOf, FillGives, Tailing, tailed}
 use Rattle.new_block.proofs.Fills.{filled}
-use Rattle.grow.specs.inner.Grow.{part}
-use Rattle.device.specs.inner.Steps.{ProgramOut, programOf, ProgramGives}
-use Rattle.device.specs.inner.Bounds.{RoomIn, CopyFrom, Blank}
 
 -- `at` is how far the front goes, `r` what the lookup behind it answers
 module _ {B N : ℕ} {e : Entry} {k off s m past : ℕ} {image health : List ℕ} (f : Tailing B N e k off s m past image health) (at : ℕ) (ea : at ≡ past - s) where
@@ -30,7 +31,7 @@ module _ {B N : ℕ} {e : Entry} {k off s m past : ℕ} {image health : List ℕ
 
   module _ (l : at < m) where
     -- its block is looked for in the old file
-    pub tail-looks : Looking B N e (length image) × (s + at < e .size)
+    pub tail-looks : ListFacts B N (e .size) (length image) × (s + at < e .size)
     tail-looks = (record { card = f .card; most = f .most }, omega (arith, f .below (omega arith)))
 
     module _ {r : Looked} (er : r ≡ lookedOf (lookIn B N e image (s + at))) where
@@ -49,7 +50,7 @@ module _ {B N : ℕ} {e : Entry} {k off s m past : ℕ} {image health : List ℕ
         tail-asks =
             let link : Linking B N k image health = record { card = f .card; known = f .known; block = f .block } in
             let room : off + at + (m - at) ≤ B = omega (arith, f .fits) in
-            let below : ob < N = look-below image (s + at) ob (tail-looks .0) (tail-looks .1) found in
+            let below : ob < N = look-below e image (s + at) ob (tail-looks .0) (tail-looks .1) found in
             (room-of (off + at) (m - at) image link refl room, source-of ob (off + at) (m - at) link below room, rw ea (f .clean (omega arith)))
 
         pub tail-copied : {q : Programmed} {after : List ℕ}

@@ -9,12 +9,12 @@ use old_list::Looked;
 use old_list::look;
 ghost use Prim.Native.Nat.{_≤_};
 ghost use lib.ListN.{length};
-ghost use Rattle.new_block.specs.inner.Fill.{frontOf, tailOf, fillOf, FillGives, Tailing, Filling};
 ghost use Rattle.layout.specs.Numbers.{sizeMax};
 ghost use Rattle.device.specs.inner.Steps.{ProgramGives};
 ghost use Rattle.device.specs.inner.Bounds.{RoomIn, Blank};
 ghost use Rattle.old_list.specs.Write.{jobOf};
 ghost use Rattle.old_list.specs.inner.Lookups.{lookIn};
+ghost use Rattle.new_block.specs.inner.Fill.{frontOf, tailOf, fillOf, FillGives, Tailing, Filling};
 
 // What filling a new block gives: the size so far, that the block refused, or -84.
 pub enum Filled {

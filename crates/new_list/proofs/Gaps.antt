@@ -8,16 +8,16 @@ use native.Mathlib.Omega.{arith}
 use borrow.Author.Tests.{le-ltb, ltb-true}
 use lib.Dec.{ltb}
 use lib.ListN.{take, drop, length-replicate}
+use Rattle.health.specs.Health.{refusesProgram}
 use Rattle.device.specs.Device.{stored}
+use Rattle.trials.specs.Loop.{Took, WriteOut}
 use Rattle.grow.specs.declared.Growth.{Growth}
 use Rattle.grow.specs.declared.Growth.the-variants as growth
-use Rattle.old_list.specs.Write.{Job, Look, zeros, new, kept, over, wanted, looked, firstHead}
-use Rattle.trials.specs.Loop.{Took, WriteOut}
 use Rattle.grow.specs.Extend.{GrowOut}
 use Rattle.grow.specs.inner.Grow.{growOf}
-use Rattle.new_list.specs.inner.Write.{filledOf, grownOf, writeOf, putOf}
+use Rattle.old_list.specs.Write.{Job, Look, zeros, new, kept, over, wanted, looked, firstHead}
 use Rattle.new_block.specs.inner.Fill.{fronted}
-use Rattle.health.specs.Health.{refusesProgram}
+use Rattle.new_list.specs.inner.Write.{filledOf, grownOf, writeOf, putOf}
 
 -- n zeros at the old size
 abbrev pub zeroing : ℕ → ℕ → ℕ → Job

@@ -4,26 +4,26 @@ use mathlib.Core.List.{List}
 use Prim.Native.Nat.{ℕ, suc, _+_, _-_, _≤_, _<_}
 use native.Mathlib.Omega.{arith}
 use lib.ListN.{length}
+use Rattle.layout.specs.Numbers.{sizeMax}
 use Rattle.files.specs.declared.Entry.{Entry}
 use Rattle.files.specs.declared.Table.{Table}
 use Rattle.window.specs.declared.Lookahead.{Lookahead}
+use Rattle.window.specs.inner.Facts.{ValidWindow}
+use Rattle.trials.specs.Loop.{Writing, Written, NoRoom, Corrupt, WriteOut, write-out}
 use Rattle.grow.specs.declared.Growth.the-variants as growth
 use Rattle.grow.specs.declared.Grew.{Grew}
+use Rattle.grow.specs.inner.Extend.{extendIn, Extending}
+use Rattle.grow.specs.inner.Gives.{GrewGives}
 use Rattle.grow.proofs.Grown.{Grows, extend-grows}
+use Rattle.old_list.specs.Write.{new, jobOf}
+use Rattle.old_list.specs.inner.Lookups.{lookIn}
 use Rattle.new_block.specs.declared.Filled.{Filled}
 use Rattle.new_block.specs.declared.Filled.the-variants.{Done, Spoiled, Damaged}
+use Rattle.new_block.specs.inner.Fill.{fillOf, FillGives, Filling}
 use Rattle.new_list.specs.declared.Writing.the-variants as writing
 use Rattle.new_list.specs.declared.Wrote.{Wrote}
-use Rattle.old_list.specs.Write.{new, jobOf}
-use Rattle.new_block.specs.inner.Fill.{fillOf, FillGives, Filling}
 use Rattle.new_list.specs.inner.Put.{onBy, onFrom, wroteOf, WroteGives, Putting}
 use Rattle.new_list.proofs.Turns as turns
-use Rattle.layout.specs.Numbers.{sizeMax}
-use Rattle.grow.specs.inner.Extend.{extendIn, Extending}
-use Rattle.trials.specs.Loop.{Writing, Written, NoRoom, Corrupt, WriteOut, write-out}
-use Rattle.window.specs.inner.Facts.{ValidWindow}
-use Rattle.grow.specs.inner.Gives.{GrewGives}
-use Rattle.old_list.specs.inner.Lookups.{lookIn}
 
 -- window w, the list (h, s) and image img, in the middle of a write from window w₀, the list (h₀, s₀) and image img₀
 pub record Rest (B N l : ℕ) (health : List ℕ) (t : Table) (e : Entry) (pos : ℕ) (src : List ℕ) (w₀ : Lookahead) (h₀ s₀ : ℕ) (img₀ : List ℕ)

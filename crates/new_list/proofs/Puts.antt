@@ -7,24 +7,25 @@ use native.Mathlib.Omega.{arith}
 use lib.Dec.{ltb}
 use lib.ListN.{length}
 use Rattle.layout.specs.Layout.{indexAt, start}
+use Rattle.ctz.specs.inner.Bounds.{ListFacts}
 use Rattle.files.specs.declared.Entry.{Entry}
 use Rattle.files.specs.declared.Table.{Table}
 use Rattle.window.specs.declared.Lookahead.{Lookahead}
 use Rattle.window.specs.Value.{checkpointOf}
 use Rattle.window.proofs.Kept.{checkpoint-valid}
+use Rattle.trials.specs.Loop.{Corrupt}
+use Rattle.grow.specs.inner.Extend.{windowAlloc}
 use Rattle.old_list.specs.declared.Looked.{Looked}
 use Rattle.old_list.specs.declared.Looked.the-variants as looked-as
+use Rattle.old_list.specs.Write.{Job, Look, over, kept, zeros, when, wanted, looked, firstHead, jobOf}
+use Rattle.old_list.specs.inner.Lookups.{lookedOf, keptWanted, tailWanted, foundIf, keptOf, lookIn}
+use Rattle.old_list.proofs.Looks.{looked-append, told-block, told-lost}
 use Rattle.new_list.specs.declared.Writing.the-variants as writing
 use Rattle.new_list.specs.declared.Wrote.{Wrote}
-use Rattle.old_list.specs.Write.{Job, Look, over, kept, zeros, when, wanted, looked, firstHead, jobOf}
-use Rattle.old_list.specs.inner.Lookups.{lookedOf, keptWanted, tailWanted, foundIf, keptOf, Looking, lookIn}
 use Rattle.new_list.specs.inner.Put.{onBy, onFrom, WroteGives, Putting, puts}
-use Rattle.old_list.proofs.Looks.{looked-append, told-block, told-lost}
+use Rattle.new_list.specs.inner.Write.{putOf}
 use Rattle.new_list.proofs.Goes.{wrote}
 use Rattle.new_list.proofs.Gaps.{put-as-gap}
-use Rattle.grow.specs.inner.Extend.{windowAlloc}
-use Rattle.trials.specs.Loop.{Corrupt}
-use Rattle.new_list.specs.inner.Write.{putOf}
 
 module _ (look : List ℕ → ℕ → Look) (img : List ℕ) (B : ℕ) where
   -- what is kept and what is copied behind it, looked for one after the other
@@ -57,7 +58,7 @@ module _ (look : List ℕ → ℕ → Look) (img : List ℕ) (B : ℕ) where
 
 module _ {B N l : ℕ} {img health : List ℕ} {t : Table} {w : Lookahead} {e : Entry} {pos : ℕ} {src : List ℕ}
     (x : Putting B N l img health t w e pos src) where
-  pub putting-look : Looking B N e (length img)
+  pub putting-look : ListFacts B N (e .size) (length img)
   putting-look = record { card = x .ready .card; most = x .most }
 
   module _ {v : Lookahead} (c : v ≡ checkpointOf N w) where

@@ -5,15 +5,15 @@ use mathlib.Core.List.{List}
 use Prim.Native.Nat.{ℕ, suc, _+_, _-_, _≤_, _<_}
 use borrow.Author.Tests.{lt-ltb, le-ltb}
 use lib.Dec.{ltb}
+use Rattle.health.specs.Health.{refusesProgram}
+use Rattle.trials.specs.Loop.{Took, Written, NoRoom, Corrupt, WriteOut, write-out}
 use Rattle.grow.specs.declared.Growth.the-variants as growth
-use Rattle.new_block.specs.declared.Filled.the-variants.{Done, Spoiled, Damaged}
+use Rattle.grow.specs.inner.Grow.{growOf}
 use Rattle.old_list.specs.Write.{Job, new, over, Look}
+use Rattle.new_block.specs.declared.Filled.the-variants.{Done, Spoiled, Damaged}
 use Rattle.new_block.specs.inner.Fill.{FillOut, share, tailOf, fillOf, fronted}
 use Rattle.new_block.proofs.Fills.{fill-refused, fill-goes}
-use Rattle.trials.specs.Loop.{Took, Written, NoRoom, Corrupt, WriteOut, write-out}
-use Rattle.grow.specs.inner.Grow.{growOf}
 use Rattle.new_list.specs.inner.Write.{filledOf, grownOf, writeOf}
-use Rattle.health.specs.Health.{refusesProgram}
 
 -- what follows the filling of a block: the size so far, another block, or -84
 abbrev pub onFill : {W : Type 0} → FillOut → (ℕ → List ℕ → WriteOut W) → (List ℕ → WriteOut W) → W → WriteOut W

@@ -8,6 +8,7 @@ use native.Mathlib.Omega.{arith}
 use borrow.Author.Tests.{lt-ltb, le-ltb, ltb-true, ltb-false}
 use lib.Dec.{ltb}
 use Rattle.layout.specs.Layout.{indexAt, offsetAt, start}
+use Rattle.layout.specs.inner.Served.{Served}
 use Rattle.layout.proofs.Places.{index-mono}
 use Rattle.layout.proofs.Served.{served, index-in, index-found}
 use Rattle.old_list.specs.declared.Looked.the-variants as looked-as
@@ -15,7 +16,6 @@ use Rattle.old_list.specs.Write.{Look, starts, looked, firstHead}
 use Rattle.old_list.specs.inner.Lookups.{lookedOf, keptWanted, tailWanted, keptOf}
 use Rattle.old_list.proofs.Index.{index-within, index-start, start-before, index-some, index-none, start-behind, index-behind}
 use Rattle.old_list.proofs.Looks.{looked-more, looked-lost, looked-none}
-use Rattle.layout.specs.inner.Served.{Served}
 
 module _ (look : List ℕ → ℕ → Look) (img : List ℕ) where
   -- ---- the head of the first growth

@@ -4,10 +4,10 @@ use mathlib.Core.Logic.{_⊎_, inl, inr}
 use Prim.Native.Nat.{ℕ, zero, suc, _+_, _-_, _*_, _^_, _≤_, _<_}
 use native.Mathlib.Omega.{arith}
 use Rattle.layout.specs.Layout.{pointers, start, indexAt, offsetAt}
+use Rattle.layout.specs.inner.Served.{Served}
 use Rattle.layout.proofs.Laws.{start-zero}
 use Rattle.layout.proofs.Places.{Same, Next, next-place, start-suc, offset-of, offset-past, offset-inside}
 use Rattle.layout.proofs.Served.{served, index-in, index-found}
-use Rattle.layout.specs.inner.Served.{Served}
 
 module _ {B p : ℕ} (h : Served B p) where
   -- a position between the first one of p's block and p

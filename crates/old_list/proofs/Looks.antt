@@ -5,22 +5,23 @@ use mathlib.Core.List.{List, [], _∷_, _++_}
 use Prim.Native.Nat.{ℕ, suc, _+_, _-_, _^_, _≤_, _<_}
 use native.Mathlib.Omega.{arith}
 use Rattle.layout.specs.Layout.{indexAt, offsetAt, start}
+use Rattle.layout.specs.inner.Served.{Served, blockList}
 use Rattle.layout.proofs.Served.{served, index-below}
+use Rattle.card.specs.Card.{pointer}
+use Rattle.card.specs.inner.Cards.{cardWith}
 use Rattle.ctz.specs.declared.Found.{Found}
 use Rattle.ctz.specs.declared.Found.the-variants as found
 use Rattle.ctz.specs.Lookup.{walk, walkTo}
+use Rattle.ctz.specs.inner.Forms.{pointersWith, target, stand}
+use Rattle.ctz.specs.inner.Bounds.{ListFacts}
 use Rattle.ctz.proofs.Lookups.{found-tells}
 use Rattle.ctz.proofs.Walked.{walk-damaged, walk-at}
 use Rattle.ctz.proofs.Through.{placed, walk-placed, next-at, next-lost}
 use Rattle.files.specs.declared.Entry.{Entry}
 use Rattle.old_list.specs.declared.Looked.the-variants as looked-as
 use Rattle.old_list.specs.Write.{Look, looked, lookOf}
-use Rattle.old_list.specs.inner.Lookups.{lookedOf, Looking, Behind, lookIn}
+use Rattle.old_list.specs.inner.Lookups.{lookedOf, Behind, lookIn}
 use Rattle.old_list.proofs.Index.{index-within, index-before, index-some}
-use Rattle.layout.specs.inner.Served.{Served, blockList}
-use Rattle.card.specs.Card.{pointer}
-use Rattle.ctz.specs.inner.Forms.{pointersWith, target, stand}
-use Rattle.card.specs.inner.Cards.{cardWith}
 
 -- the offset that a lookup answers is not looked at
 look-placed : (off : ℕ) (f : Found) → lookOf (placed off f) ≡ lookOf f
@@ -72,8 +73,8 @@ module _ {B : ℕ} (N : ℕ) (e : Entry) (img : List ℕ) {q first : ℕ} (h : S
       rw (walkTo, ← above) (ap lookOf (next-lost (pointer B img) N (offsetAt B (first - 1)) (indexAt B (first - 1)) (e .head) small b l))
 
 -- a block that is found is below N
-pub look-below : {B N : ℕ} {e : Entry} {len : ℕ} (img : List ℕ) (p k : ℕ) → Looking B N e len → p < e .size → lookIn B N e img p ≡ Look.Found k → k < N
-look-below {B} {N} {e} img p k g l f = go (walkTo (cardWith B N img) (blockList (e .head) (e .size)) p) refl f
+pub look-below : {B N : ℕ} (e : Entry) {len : ℕ} (img : List ℕ) (p k : ℕ) → ListFacts B N (e .size) len → p < e .size → lookIn B N e img p ≡ Look.Found k → k < N
+look-below {B} {N} e img p k g l f = go (walkTo (cardWith B N img) (blockList (e .head) (e .size)) p) refl f
   where
     go : (x : Found) → walkTo (cardWith B N img) (blockList (e .head) (e .size)) p ≡ x → lookOf x ≡ Look.Found k → k < N
     go (found.At j off hops) w f =

@@ -6,13 +6,13 @@ use lib.Dec.{ltb}
 use lib.ListN.{length, replicate, take, drop}
 use Rattle.layout.specs.Numbers.{nullBlock}
 use Rattle.layout.specs.Layout.{BlockSize, Index, Position, indexAt, offsetAt, start}
+use Rattle.card.specs.Card.{blockOf}
 use Rattle.ctz.specs.declared.Found as ctz
 use Rattle.ctz.specs.declared.Found.the-variants as found
 use Rattle.files.specs.declared.Entry.{Entry}
 use Rattle.trials.specs.Trial.{Trial, Whole, Fault, Refused, ends, whole, more}
 use Rattle.trials.specs.Loop.{Plan, Candidate}
 use Rattle.grow.specs.Growth.{offset, with, growth}
-use Rattle.card.specs.Card.{blockOf}
 
 abbrev pub zeros : ℕ → List ℕ
 zeros n = replicate n 0

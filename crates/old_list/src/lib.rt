@@ -5,10 +5,11 @@ ghost use mathlib.Core.Path.{_≡_};
 ghost use Prim.Native.Nat.{_-_, _≤_, _<_};
 ghost use lib.ListN.{length};
 ghost use Rattle.layout.specs.Layout.{indexAt, start};
-ghost use Rattle.old_list.specs.Write.{looked};
-ghost use Rattle.old_list.specs.inner.Lookups.{lookedOf, keptOf, tailWanted, Looking, Behind, lookIn};
 ghost use Rattle.layout.specs.Numbers.{sizeMax};
 ghost use Rattle.layout.specs.inner.Served.{Served};
+ghost use Rattle.ctz.specs.inner.Bounds.{ListFacts};
+ghost use Rattle.old_list.specs.Write.{looked};
+ghost use Rattle.old_list.specs.inner.Lookups.{lookedOf, keptOf, tailWanted, Behind, lookIn};
 
 // What a lookup in a file's list finds; lost: -84.
 pub enum Looked {
@@ -27,7 +28,7 @@ fn block_start(b: u32, p: u32) -> u32
 
 // The block of a position of a file: the head, at its last byte.
 pub fn look(b: u32, n: u32, image: &[u8], e: Entry, p: u32) -> Looked
-    requires { ⌜ Looking b n e (length (now image)) × (p < e .size) ⌝ }
+    requires { ⌜ ListFacts b n (e .size) (length (now image)) × (p < e .size) ⌝ }
     ensures { λ r. ⌜ r ≡ lookedOf (lookIn b n e (now (image .entry)) p) ⌝ }
 {
     if p + 1 == e.size {
@@ -50,7 +51,7 @@ pub fn look(b: u32, n: u32, image: &[u8], e: Entry, p: u32) -> Looked
 
 // The block before that of byte q - 1, which starts at `first`: one pointer of the head, where q is the size.
 fn look_before(b: u32, n: u32, image: &[u8], e: Entry, q: u32, first: u32) -> Looked
-    requires { ⌜ Looking b n e (length (now image)) × (q ≤ e .size) × Behind b q first ⌝ }
+    requires { ⌜ ListFacts b n (e .size) (length (now image)) × (q ≤ e .size) × Behind b q first ⌝ }
     ensures { λ r. ⌜ r ≡ lookedOf (lookIn b n e (now (image .entry)) (first - 1)) ⌝ }
 {
     if q == e.size {
@@ -68,7 +69,7 @@ fn look_before(b: u32, n: u32, image: &[u8], e: Entry, q: u32, first: u32) -> Lo
 
 // The block from which the first growth goes, that of byte q - 1, once the last kept block and the one that is copied are found.
 pub fn first_head(b: u32, n: u32, image: &[u8], e: Entry, q: u32) -> Looked
-    requires { ⌜ Looking b n e (length (now image)) × (q ≤ e .size) ⌝ }
+    requires { ⌜ ListFacts b n (e .size) (length (now image)) × (q ≤ e .size) ⌝ }
     ensures { λ r. ⌜ r ≡ lookedOf (keptOf (lookIn b n e) b (now (image .entry)) q) ⌝ }
 {
     if q == 0 {
@@ -91,7 +92,7 @@ pub fn first_head(b: u32, n: u32, image: &[u8], e: Entry, q: u32) -> Looked
 
 // Whether each block of a file from position `from` to its end is found.
 pub fn tail_looked(b: u32, n: u32, image: &[u8], e: Entry, from: u32) -> bool
-    requires { ⌜ Looking b n e (length (now image)) × (from ≤ sizeMax) ⌝ }
+    requires { ⌜ ListFacts b n (e .size) (length (now image)) × (from ≤ sizeMax) ⌝ }
     ensures { λ r. ⌜ r ≡ looked ((lookIn b n e) (now (image .entry))) (tailWanted b from (e .size)) ⌝ }
 {
     let size = e.size;

@@ -9,24 +9,24 @@ use native.Mathlib.Nat.{le-of-dvd, eq-or-lt-of-le}
 use native.Mathlib.Omega.{arith}
 use borrow.Author.Tests.{ltb-true, ltb-false, eqb-true, eqb-false}
 use lib.Dec.{ltb, eqb}
-use Rattle.hops.specs.Walk.{ctz}
-use Rattle.hops.proofs.Digits.{dvd-of-ctz}
+use Rattle.span.specs.Members.{has}
 use Rattle.layout.specs.Layout.{BlockList, indexAt}
 use Rattle.layout.specs.inner.Served.{blockList}
+use Rattle.hops.specs.Walk.{ctz}
+use Rattle.hops.proofs.Digits.{dvd-of-ctz}
 use Rattle.card.specs.Card.{Card, pointer}
 use Rattle.card.specs.inner.Cards.{cardWith}
 use Rattle.ctz.specs.Lists.{down, Names, Sound}
-use Rattle.audit.specs.Check.{falls, names, andThen, further}
+use Rattle.ctz.specs.inner.Forms.{pointersWith}
+use Rattle.ctz.proofs.Sounds.{at}
 use Rattle.audit.specs.declared.Fault.{Fault}
 use Rattle.audit.specs.declared.Fault.the-variants.{NotBelow, MetBefore, Disagrees}
 use Rattle.audit.specs.declared.Checked.{Checked}
 use Rattle.audit.specs.declared.Checked.the-variants as checked
+use Rattle.audit.specs.Check.{falls, names, andThen, further}
+use Rattle.audit.specs.inner.Bounds.{holder}
 use Rattle.plain.specs.Faults.{CleanFrom, AgreeFrom, FirstFault, not-below, met-before, disagrees}
 use Rattle.plain.proofs.Walks.{down-add, at-top, at-next}
-use Rattle.ctz.proofs.Sounds.{at}
-use Rattle.ctz.specs.inner.Forms.{pointersWith}
-use Rattle.audit.specs.inner.Bounds.{holder}
-use Rattle.span.specs.Members.{has}
 
 module _ (B N : ℕ) (image : List ℕ) (head size : ℕ) where
   abbrev card : Card

@@ -9,21 +9,20 @@ use lib.ListN.{replicate, take, drop}
 use Rattle.span.specs.Members.{has}
 use Rattle.span.specs.Words.{wordAt}
 use Rattle.layout.specs.Layout.{pointers, capacity, start, indexAt, offsetAt}
+use Rattle.layout.specs.inner.Served.{blockList}
 use Rattle.card.specs.Card.{goodCard, pointer}
+use Rattle.card.specs.inner.Cards.{cardWith}
+use Rattle.ctz.specs.declared.Found.the-variants.{At}
 use Rattle.ctz.specs.Lists.{down, SoundList}
 use Rattle.ctz.specs.Lookup.{walk, walkTo, lookupOf}
-use Rattle.ctz.specs.declared.Found.the-variants.{At}
 use Rattle.ctz.specs.Visits.{visitOf, visit, hand}
-use Rattle.audit.specs.Check.{falls, names, further, checkOf}
 use Rattle.audit.specs.declared.Fault.the-variants.{NotBelow, Disagrees}
 use Rattle.audit.specs.declared.Checked.the-variants.{Sound, Unsound}
+use Rattle.audit.specs.Check.{falls, names, further, checkOf}
 use Rattle.plain.specs.Bytes.{span, bytes}
-use Rattle.plain.specs.Reading.{gather, readIn, Bytes, stretchIn, Given, Got}
-use Rattle.plain.proofs.Faults.{check-tells}
-use Rattle.card.specs.inner.Cards.{cardWith}
-use Rattle.layout.specs.inner.Served.{blockList}
-use Rattle.ctz.specs.inner.Held.{visitHeld}
+use Rattle.plain.specs.Reading.{gather, readIn, Bytes, stretchIn, Given, Gathered}
 use Rattle.plain.specs.inner.Forms.{range}
+use Rattle.plain.proofs.Faults.{check-tells}
 
 four : ℕ → List ℕ
 four n = n ∷ 0 ∷ 0 ∷ 0 ∷ []
@@ -77,6 +76,6 @@ unfolding readIn gather stretchIn walkTo walk bytes span down pointer wordAt ind
 given = (refl, refl, refl, refl)
 
 -- a read that meets a number not below 7 in its second block gives nothing of the first
-damaged : readIn (cardWith 160 7 (card 9 1)) (blockList 2 630) (range 159 2) ≡ Got.Damaged
+damaged : readIn (cardWith 160 7 (card 9 1)) (blockList 2 630) (range 159 2) ≡ Gathered.Damaged
 unfolding readIn gather walkTo walk pointer wordAt indexAt offsetAt start capacity pointers trailingZeros leadingZeros card four
 damaged = refl

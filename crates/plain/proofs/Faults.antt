@@ -8,20 +8,19 @@ use native.Mathlib.Omega.{arith}
 use borrow.Author.Tests.{le-ltb, eq-eqb, ne-eqb, eqb-true, eqb-false, ltb-true, ltb-false}
 use lib.Dec.{eqb, ltb}
 use Rattle.layout.specs.Layout.{BlockList, indexAt}
+use Rattle.layout.specs.inner.Served.{blockList}
+use Rattle.card.specs.Card.{Card, pointer}
+use Rattle.card.specs.inner.Cards.{cardWith}
 use Rattle.ctz.specs.Lists.{topOf, Names, Sound, SoundList}
-use Rattle.audit.specs.Check.{falls, andThen, further, checkOf}
+use Rattle.ctz.specs.inner.Forms.{pointersWith}
 use Rattle.audit.specs.declared.Fault.{Fault}
 use Rattle.audit.specs.declared.Fault.the-variants.{NotBelow, MetBefore, Disagrees, NotNull}
 use Rattle.audit.specs.declared.Checked.{Checked}
 use Rattle.audit.specs.declared.Checked.the-variants as checked
+use Rattle.audit.specs.Check.{falls, andThen, further, checkOf}
 use Rattle.plain.specs.Faults.{blockIn, CleanFrom, FirstFault, not-below, met-before, disagrees, ListFault, not-null, on-list}
-use Rattle.plain.proofs.Checking.{View, clean, fault, check-view}
-use Rattle.card.specs.Card.{Card, pointer}
-use Rattle.card.specs.inner.Cards.{cardWith}
-use Rattle.layout.specs.inner.Served.{blockList}
-use Rattle.ctz.proofs.Sounds.{at}
-use Rattle.ctz.specs.inner.Forms.{pointersWith}
 use Rattle.plain.specs.inner.Forms.{GoodList}
+use Rattle.plain.proofs.Checking.{View, clean, fault, check-view}
 
 -- ---- at most one first fault, over stored pointers
 

@@ -7,22 +7,22 @@ use native.Mathlib.Omega.{arith}
 use lib.ListN.{length, getD, take, drop}
 use Rattle.span.proofs.Parts.{getD-part}
 use Rattle.layout.specs.Layout.{indexAt, offsetAt}
+use Rattle.layout.specs.inner.Served.{blockList}
 use Rattle.layout.proofs.Places.{index-mono, offset-inside}
+use Rattle.card.specs.Card.{pointer, blockOf}
+use Rattle.card.specs.inner.Cards.{cardWith}
 use Rattle.card.proofs.Cards.{block-inside}
+use Rattle.ctz.specs.declared.Found.the-variants.{At}
 use Rattle.ctz.specs.Lists.{SoundList}
 use Rattle.ctz.specs.Lookup.{lookupOf}
-use Rattle.ctz.specs.declared.Found.the-variants.{At}
+use Rattle.ctz.proofs.Sounds.{at, over, sound}
 use Rattle.plain.specs.Bytes.{span, bytes}
+use Rattle.plain.specs.inner.Forms.{GoodList}
 use Rattle.plain.proofs.Walks.{at-cut, cut-sound}
 use Rattle.plain.proofs.Spans.{length-span, getD-span, span-same, take-span, part-span, span-part}
 use Rattle.plain.proofs.Indexes.{index-le, in-block, within, card-of, run-index, run-offset}
 use Rattle.plain.proofs.Finding.{lookup-block, lookup-offset}
-use Rattle.card.specs.Card.{pointer, blockOf}
-use Rattle.card.specs.inner.Cards.{cardWith}
-use Rattle.layout.specs.inner.Served.{blockList}
-use Rattle.ctz.proofs.Sounds.{at, over, sound}
 use Rattle.plain.proofs.Same.{byteOver}
-use Rattle.plain.specs.inner.Forms.{GoodList}
 
 -- a byte of a block, in the image
 pub block-byte : (image : List ℕ) (B k o : ℕ) → o < B → getD (blockOf B image k) o 0 ≡ getD image (k * B + o) 0

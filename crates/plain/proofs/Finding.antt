@@ -4,25 +4,25 @@ use mathlib.Core.Bool.{true}
 use mathlib.Core.List.{List}
 use Prim.Native.Nat.{ℕ, _-_, _<_}
 use native.Mathlib.Omega.{arith}
-use Rattle.hops.specs.Walk.{hops}
-use Rattle.hops.proofs.Bound.{bound-none, bound-one, bound}
 use Rattle.layout.specs.Layout.{indexAt, offsetAt}
+use Rattle.layout.specs.inner.Served.{blockList}
+use Rattle.hops.specs.Walk.{hops}
+use Rattle.hops.specs.inner.Ways.{way}
+use Rattle.hops.proofs.Bound.{bound-none, bound-one, bound}
+use Rattle.card.specs.Card.{pointer}
+use Rattle.card.specs.inner.Cards.{cardWith}
+use Rattle.ctz.specs.declared.Found.the-variants.{At}
 use Rattle.ctz.specs.Lists.{SoundList}
 use Rattle.ctz.specs.Lookup.{walkTo, lookupOf}
-use Rattle.ctz.specs.declared.Found.the-variants.{At}
 use Rattle.ctz.specs.Visits.{visitOf}
 use Rattle.ctz.proofs.Lookups.{lookup-walks}
 use Rattle.ctz.proofs.Visiting.{visit-begins}
+use Rattle.ctz.proofs.Sounds.{at, over}
 use Rattle.plain.specs.Demand.{Fewest}
+use Rattle.plain.specs.inner.Forms.{GoodList}
 use Rattle.plain.proofs.Lookups.{walk-finds, least-stored, some-stored}
 use Rattle.plain.proofs.Visits.{visited}
 use Rattle.plain.proofs.Indexes.{index-le, top-small}
-use Rattle.card.specs.Card.{pointer}
-use Rattle.hops.specs.inner.Ways.{way}
-use Rattle.card.specs.inner.Cards.{cardWith}
-use Rattle.layout.specs.inner.Served.{blockList}
-use Rattle.ctz.proofs.Sounds.{at, over, sound}
-use Rattle.plain.specs.inner.Forms.{GoodList}
 use Rattle.plain.proofs.Same.{countdown}
 
 module _ {B N : ℕ} {image : List ℕ} {head size : ℕ} (g : GoodList B N image size) (s : SoundList (cardWith B N image) (blockList head size)) where

@@ -10,18 +10,23 @@ use lib.Dec.{ltb, eqb}
 use lib.ListN.{length, getD, take, drop, length-take, length-drop}
 use lib.Seq.{ext-getD}
 use Rattle.span.specs.Words.{wordAt}
-use Rattle.hops.specs.Walk.{hops}
 use Rattle.layout.specs.Layout.{indexAt, offsetAt}
+use Rattle.layout.specs.inner.Served.{geometry, blockList}
 use Rattle.layout.proofs.Places.{index-mono}
+use Rattle.hops.specs.Walk.{hops}
+use Rattle.hops.specs.inner.Ways.{way}
 use Rattle.card.specs.Card.{goodCard, pointer, blockOf}
+use Rattle.card.specs.inner.Cards.{cardWith}
+use Rattle.ctz.specs.declared.Found.the-variants.{At}
 use Rattle.ctz.specs.Lists.{SoundList}
 use Rattle.ctz.specs.Lookup.{lookupOf}
-use Rattle.ctz.specs.declared.Found.the-variants.{At}
 use Rattle.ctz.specs.Visits.{visitOf}
 use Rattle.ctz.proofs.Lookups.{lookup-empty, lookup-past}
+use Rattle.ctz.proofs.Sounds.{at, over, sound}
 use Rattle.audit.specs.Check.{checkOf}
 use Rattle.plain.specs.Bytes.{bytes}
 use Rattle.plain.specs.Reading.{readIn, stretchIn, Bytes}
+use Rattle.plain.specs.inner.Forms.{range, GoodList}
 use Rattle.plain.proofs.Walks.{Agrees, at-frame, sound-frame}
 use Rattle.plain.proofs.Countdowns.{countdown-same}
 use Rattle.plain.proofs.Spans.{span-same}
@@ -29,11 +34,6 @@ use Rattle.plain.proofs.Finding.{lookup-sound, visit-sound}
 use Rattle.plain.proofs.Files.{block-byte}
 use Rattle.plain.proofs.Reading.{read-sound, stretch-sound, stretch-past}
 use Rattle.plain.proofs.Faults.{check-sound}
-use Rattle.layout.specs.inner.Served.{geometry, blockList}
-use Rattle.hops.specs.inner.Ways.{way}
-use Rattle.card.specs.inner.Cards.{cardWith}
-use Rattle.ctz.proofs.Sounds.{at, over, sound}
-use Rattle.plain.specs.inner.Forms.{range, GoodList}
 use Rattle.plain.proofs.Same.{byteOver, SameBlocks, partBytes}
 
 -- a block is the same where its bytes are

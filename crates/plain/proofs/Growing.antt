@@ -4,11 +4,11 @@ use Prim.Native.Nat.{ℕ, zero, suc, _-_, _^_, _≤_, _<_, _∣_}
 use native.Mathlib.Nat.{le-of-dvd, dvd-sub, dvd-refl, pow-suc}
 use native.Mathlib.Omega.{arith}
 use lib.Pow.{pow-pos}
+use Rattle.hops.specs.Walk.{ctz}
 use Rattle.hops.proofs.Powers.{pow-below, dvd-down}
 use Rattle.hops.proofs.Digits.{dvd-of-ctz, ctz-of-dvd}
-use Rattle.hops.specs.Walk.{ctz}
-use Rattle.plain.proofs.Walks.{at-top, agree-all}
 use Rattle.ctz.proofs.Sounds.{SoundOver, at}
+use Rattle.plain.proofs.Walks.{at-top, agree-all}
 use Rattle.plain.proofs.Same.{link}
 
 module _ {ptr : ℕ → ℕ → ℕ} {N head top : ℕ} (s : SoundOver ptr N head top) where

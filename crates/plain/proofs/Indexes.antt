@@ -10,13 +10,13 @@ use borrow.Author.Tests.{ltb-true, ltb-false}
 use lib.Dec.{ltb, leb}
 use lib.ListN.{length}
 use Rattle.layout.specs.Layout.{onward, indexAt, offsetAt, start}
+use Rattle.layout.specs.inner.Served.{Served}
 use Rattle.layout.proofs.Laws.{start-mono}
 use Rattle.layout.proofs.Places.{start-suc, index-mono, offset-of}
 use Rattle.layout.proofs.Served.{served, index-in, index-found, index-below}
-use Rattle.card.proofs.Cards.{card}
-use Rattle.layout.specs.inner.Served.{Served}
 use Rattle.layout.proofs.InBlock.{InBlock}
 use Rattle.card.specs.inner.Cards.{CardFacts}
+use Rattle.card.proofs.Cards.{card}
 use Rattle.plain.specs.inner.Forms.{GoodList}
 
 -- the index of a position is at most that of the last

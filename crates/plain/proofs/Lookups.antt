@@ -9,16 +9,16 @@ use borrow.Author.Tests.{lt-ltb, le-ltb, ltb-true, ltb-false}
 use lib.Dec.{ltb}
 use lib.Pow.{pow-pos}
 use Rattle.hops.specs.Walk as hopping
+use Rattle.hops.specs.Walk.{jump, Route, routeLength}
+use Rattle.hops.specs.inner.Ways.{way}
 use Rattle.hops.proofs.Greedy.{Best, pick-best}
 use Rattle.hops.proofs.Exact.{hops-here, hops-step, attained}
 use Rattle.hops.proofs.Route.{least-route, follow}
-use Rattle.ctz.specs.Lookup.{walk}
 use Rattle.ctz.specs.declared.Found.the-variants.{At}
-use Rattle.plain.proofs.Walks.{at-top, agree-all}
-use Rattle.hops.specs.Walk.{jump, Route, routeLength}
-use Rattle.hops.specs.inner.Ways.{way}
+use Rattle.ctz.specs.Lookup.{walk}
 use Rattle.ctz.specs.inner.Forms.{pointersWith, target, stand}
 use Rattle.ctz.proofs.Sounds.{SoundOver, at}
+use Rattle.plain.proofs.Walks.{at-top, agree-all}
 
 module _ (f : ℕ) (ptr : ℕ → ℕ → ℕ) (N off tgt cur k n : ℕ) (h : k < N) where
   -- at the target

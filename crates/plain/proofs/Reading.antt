@@ -9,19 +9,19 @@ use borrow.Author.Tests.{lt-ltb, le-ltb, ltb-true, ltb-false}
 use lib.Dec.{ltb}
 use lib.ListN.{take, drop}
 use Rattle.layout.specs.Layout.{indexAt, offsetAt}
+use Rattle.layout.specs.inner.Served.{blockList}
 use Rattle.layout.proofs.Places.{offset-inside}
+use Rattle.card.specs.Card.{pointer}
+use Rattle.card.specs.inner.Cards.{cardWith}
 use Rattle.ctz.specs.Lists.{SoundList}
+use Rattle.ctz.proofs.Sounds.{at}
 use Rattle.plain.specs.Bytes.{span, bytes}
 use Rattle.plain.specs.Reading.{Given, stretchIn, Bytes, before, gather, readIn}
+use Rattle.plain.specs.inner.Forms.{range, GoodList}
 use Rattle.plain.proofs.Spans.{span-add}
 use Rattle.plain.proofs.Indexes.{in-block}
 use Rattle.plain.proofs.Finding.{walk-sound}
 use Rattle.plain.proofs.Files.{bytes-part, run}
-use Rattle.card.specs.Card.{pointer}
-use Rattle.card.specs.inner.Cards.{cardWith}
-use Rattle.layout.specs.inner.Served.{blockList}
-use Rattle.ctz.proofs.Sounds.{at}
-use Rattle.plain.specs.inner.Forms.{range, GoodList}
 use Rattle.plain.proofs.Same.{byteOver, partBytes}
 
 -- at or past the end a stretch is the empty part at place 0, on any list

@@ -9,9 +9,9 @@ use lib.Count.{trailingZeros}
 use lib.Dec.{eqb}
 use Rattle.hops.specs.Walk.{ctz}
 use Rattle.ctz.specs.Visits.{Visited}
-use Rattle.plain.proofs.Walks.{at-top, at-next}
 use Rattle.ctz.specs.inner.Held.{visitHeld, reads-two, nextBlock, nextAfter, handOn}
 use Rattle.ctz.proofs.Sounds.{SoundOver, at}
+use Rattle.plain.proofs.Walks.{at-top, at-next}
 use Rattle.plain.proofs.Same.{countdown}
 
 -- an even number has a trailing zero

@@ -2,12 +2,12 @@
 use mathlib.Core.Path.{_≡_}
 use mathlib.Core.List.{List}
 use Prim.Native.Nat.{ℕ, _+_, _-_, _*_, _≤_}
-use Rattle.hops.specs.Walk.{log2, hops, Route, routeLength}
 use Rattle.layout.specs.Layout.{BlockSize, Position, BlockList, indexAt, offsetAt}
+use Rattle.hops.specs.Walk.{log2, hops, Route, routeLength}
 use Rattle.card.specs.Card.{Card, pointer}
+use Rattle.ctz.specs.declared.Found.the-variants.{At}
 use Rattle.ctz.specs.Lists.{topOf, blockAt}
 use Rattle.ctz.specs.Lookup.{lookupOf}
-use Rattle.ctz.specs.declared.Found.the-variants.{At}
 
 -- A chain of pointers that the image stores, from the head, at the index of the last byte, to the block of position p, at its index.
 abbrev pub Stored : BlockSize → List ℕ → BlockList → Position → Type 0

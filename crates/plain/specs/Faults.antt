@@ -3,9 +3,9 @@
 use mathlib.Core.Path.{_≡_}
 use mathlib.Core.Logic.{_≢_}
 use Prim.Native.Nat.{ℕ, suc, _≤_, _<_}
-use Rattle.hops.specs.Walk.{ctz}
 use Rattle.layout.specs.Numbers.{nullBlock}
 use Rattle.layout.specs.Layout.{Index, BlockNumber, BlockList}
+use Rattle.hops.specs.Walk.{ctz}
 use Rattle.card.specs.Card.{Card}
 use Rattle.ctz.specs.Lists.{topOf, blockAt, Names}
 use Rattle.audit.specs.declared.Fault.{Fault}

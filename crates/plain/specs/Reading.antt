@@ -27,16 +27,16 @@ unfoldable pub stretchIn : Card → BlockList → Position → Part
 stretchIn c l p = elim (ltb p (l .size)) [ false ↦ Given 0 0 | true ↦ partOf (c .B) (l .size - p) (walkTo c l p) ]
 
 -- the bytes that a read copies; or -84, -22
-pub data Got : Type 0 where
-  Bytes : List ℕ → Got
-  Damaged : Got
-  Refused : Got
+pub data Gathered : Type 0 where
+  Bytes : List ℕ → Gathered
+  Damaged : Gathered
+  Refused : Gathered
 
 -- a part, then what the rest gave
-abbrev pub before : List ℕ → Got → Got
+abbrev pub before : List ℕ → Gathered → Gathered
 before part (Bytes rest) = Bytes (part ++ rest)
-before part Got.Damaged = Got.Damaged
-before part Got.Refused = Got.Refused
+before part Gathered.Damaged = Gathered.Damaged
+before part Gathered.Refused = Gathered.Refused
 
 -- so many bytes from a position on
 pub record Range : Type 0 where
@@ -49,7 +49,7 @@ behind r n = record { position = r .position + n; length = r .length - n }
 
 -- The bytes of a range, block after block. Every block touched is looked up first: on -84 nothing is copied. Each block gives at least one byte, so
 -- f as large as the range's length never runs out.
-unfoldable pub gather : ℕ → Card → BlockList → Range → Got
+unfoldable pub gather : ℕ → Card → BlockList → Range → Gathered
 gather zero c l r = Bytes []
 gather (suc f) c l r =
     elim (ltb 0 (r .length)) [
@@ -58,13 +58,13 @@ gather (suc f) c l r =
         | found.At k off hops ↦
             before (take (min (c .B - off) (r .length)) (drop (k * c .B + off) (c .image)))
             (gather f c l (behind r (min (c .B - off) (r .length))))
-        | found.Damaged ↦ Got.Damaged
-        | found.Refused ↦ Got.Refused
+        | found.Damaged ↦ Gathered.Damaged
+        | found.Refused ↦ Gathered.Refused
       ]
     ]
 
 -- Read gives min(room, size - position) bytes: the range's length is the room. At or past the end `-` stops at 0, and there are none.
-unfoldable pub readIn : Card → BlockList → Range → Got
+unfoldable pub readIn : Card → BlockList → Range → Gathered
 readIn c l r =
     gather (min (r .length) (l .size - r .position)) c l
     (record { position = r .position; length = min (r .length) (l .size - r .position) })

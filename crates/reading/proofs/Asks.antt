@@ -5,19 +5,20 @@ use Prim.Native.Nat.{ℕ, _≤_, _<_}
 use native.Mathlib.Omega.{arith}
 use borrow.Author.Tests.{lt-ltb, le-ltb, ltb-false}
 use lib.Dec.{ltb}
+use Rattle.layout.specs.Numbers.{filesMax, sizeMax}
+use Rattle.layout.specs.inner.Served.{geometry}
 use Rattle.card.specs.Card.{goodCard}
 use Rattle.card.proofs.Cards.{card}
-use Rattle.files.specs.Table.{file, findOf}
+use Rattle.ctz.specs.inner.Bounds.{ListFacts}
 use Rattle.files.specs.declared.Table.{Table}
 use Rattle.files.specs.declared.Found.{Found}
 use Rattle.files.specs.declared.Found.the-variants as found
+use Rattle.files.specs.Table.{file, findOf}
 use Rattle.files.proofs.Laws.{count-ok, table-valid}
 use Rattle.files.proofs.Cases.{found-at}
-use Rattle.reading.specs.inner.Bounds.{Listed, filePosition}
-use Rattle.reading.specs.Calls.{askedOf}
 use Rattle.reading.specs.declared.Asked.the-variants as asked
-use Rattle.layout.specs.Numbers.{filesMax, sizeMax}
-use Rattle.layout.specs.inner.Served.{geometry}
+use Rattle.reading.specs.Calls.{askedOf}
+use Rattle.reading.specs.inner.Bounds.{filePosition}
 
 -- a file that is found stands in one of the slots, and its size is none too large
 pub found-slot : (t : Table) (number i : ℕ) → findOf t number ≡ found.At i → i < filesMax
@@ -86,7 +87,7 @@ module _ (B N len : ℕ) (t : Table) (number p : ℕ) where
       go false g w e b h q = let z : _≡_ {A = ℕ} 0 1 = cc in absurd (omega arith)
 
   -- its list lies on a card, and its size is none too large
-  pub listed : (head size : ℕ) → askedOf (geometry B N) len t (filePosition number p) ≡ asked.File head size → Listed B N size len
+  pub listed : (head size : ℕ) → askedOf (geometry B N) len t (filePosition number p) ≡ asked.File head size → ListFacts B N size len
   listed head size q =
       let k = ask-tells head size q in
       record { card = card B N len (k .good); most = omega (arith, found-size t number (k .slot) (k .place), k .size-is) }

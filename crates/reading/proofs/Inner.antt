@@ -9,36 +9,36 @@ use borrow.Author.Tests.{lt-ltb, ltb-true, ltb-false}
 use lib.Dec.{ltb}
 use lib.ListN.{length}
 use lib.Seq.{sets}
-use Rattle.ctz.specs.Lookup.{walkTo}
+use Rattle.layout.specs.inner.Served.{blockList}
+use Rattle.card.specs.inner.Cards.{cardWith}
 use Rattle.ctz.specs.declared.Found.{Found}
 use Rattle.ctz.specs.declared.Found.the-variants as found
-use Rattle.plain.specs.Reading.{Part, partOf, stretchIn, Got, Bytes, gather, readIn}
+use Rattle.ctz.specs.Lookup.{walkTo}
+use Rattle.ctz.specs.inner.Bounds.{ListFacts}
+use Rattle.plain.specs.Reading.{Part, partOf, stretchIn, Bytes, gather, readIn, Gathered}
+use Rattle.plain.specs.inner.Forms.{range}
 use Rattle.plain.proofs.Reading.{stretch-past}
-use Rattle.reading.specs.inner.Bounds.{Listed}
 use Rattle.finding.specs.inner.Bounds.{Ranged}
-use Rattle.reading.specs.Calls.{given, placedOf, placedPlace, placedLength}
-use Rattle.reading.specs.declared.Reading.the-variants as reading
-use Rattle.reading.specs.declared.Placed.the-variants as placed
+use Rattle.finding.specs.inner.Runs.{clean, gotBytes}
 use Rattle.finding.proofs.Parts.{never-both}
 use Rattle.finding.proofs.Gathers.{all-none, Gave, copied, damaged, gave, offset-below, step}
-use Rattle.card.specs.inner.Cards.{cardWith}
-use Rattle.layout.specs.inner.Served.{blockList}
-use Rattle.plain.specs.inner.Forms.{range}
-use Rattle.finding.specs.inner.Runs.{clean, gotBytes}
 use Rattle.copies.specs.inner.Copies.{Copied, copiedOf}
+use Rattle.reading.specs.declared.Reading.the-variants as reading
+use Rattle.reading.specs.declared.Placed.the-variants as placed
+use Rattle.reading.specs.Calls.{given, placedOf, placedPlace, placedLength}
 
 -- a position below the size has a run of bytes to the end behind it
-pub ranged : {B N size len : ℕ} (p n : ℕ) → Listed B N size len → p + n ≤ size → Ranged B N size p n len
+pub ranged : {B N size len : ℕ} (p n : ℕ) → ListFacts B N size len → p + n ≤ size → Ranged B N size p n len
 ranged p n l h = record { card = l .card; most = l .most; inside = h }
 
 -- ---- read
 
-gives-copied : (n : ℕ) {g : Got} (buffer after : List ℕ) → Gave n g → clean g ≡ true → after ≡ sets buffer 0 (gotBytes g)
+gives-copied : (n : ℕ) {g : Gathered} (buffer after : List ℕ) → Gave n g → clean g ≡ true → after ≡ sets buffer 0 (gotBytes g)
     → record { answer = reading.Bytes n; buffer = after } ≡ given buffer g
 gives-copied n buffer after (copied bs e) c a = rw (a, sym e) refl
 gives-copied n buffer after damaged c a = let z : _≡_ {A = ℕ} 0 1 = cc in absurd (omega arith)
 
-gives-damaged : (n : ℕ) {g : Got} (buffer after : List ℕ) → Gave n g → clean g ≡ false → after ≡ sets buffer 0 (gotBytes g)
+gives-damaged : (n : ℕ) {g : Gathered} (buffer after : List ℕ) → Gave n g → clean g ≡ false → after ≡ sets buffer 0 (gotBytes g)
     → record { answer = reading.Damaged; buffer = after } ≡ given buffer g
 gives-damaged n buffer after (copied bs e) c a = absurd (never-both refl c)
 gives-damaged n buffer after damaged c a = rw a refl
@@ -70,7 +70,7 @@ module _ (image : List ℕ) (B N head size p : ℕ) (buffer : List ℕ) where
       read-copied w = gives-copied n buffer after (gave image head p n r) (sym told ∙ w) left ∙ sym (ap (given buffer) read-is)
 
 -- a read behind the tests gives -84, or exactly min(room, size - position) bytes
-pub readIn-gave : (image : List ℕ) (head : ℕ) {B N size : ℕ} (p room : ℕ) → Listed B N size (length image)
+pub readIn-gave : (image : List ℕ) (head : ℕ) {B N size : ℕ} (p room : ℕ) → ListFacts B N size (length image)
     → Gave (min room (size - p)) (readIn (cardWith B N image) (blockList head size) (range p room))
 unfolding readIn
 readIn-gave image head {B} {N} {size} p room l = go (ltb p size) refl
@@ -104,7 +104,7 @@ pub record Lies (B size p k off : ℕ) : Type 0 where
   pub offset : off < B
   pub block : k * B + B ≤ 16777216
 
-pub lies : (image : List ℕ) (head : ℕ) {B N size : ℕ} (p : ℕ) {k off hops : ℕ} → Listed B N size (length image) → p < size
+pub lies : (image : List ℕ) (head : ℕ) {B N size : ℕ} (p : ℕ) {k off hops : ℕ} → ListFacts B N size (length image) → p < size
     → walkTo (cardWith B N image) (blockList head size) p ≡ found.At k off hops → Lies B size p k off
 lies image head {B} {N} {size} p {k} {off} l h e =
     let r = ranged p (size - p) l (omega arith) in
@@ -116,7 +116,7 @@ lies image head {B} {N} {size} p {k} {off} l h e =
     }
 
 -- a stretch lies in the image
-pub stretch-inside : (image : List ℕ) (head : ℕ) {B N size : ℕ} (p : ℕ) → Listed B N size (length image)
+pub stretch-inside : (image : List ℕ) (head : ℕ) {B N size : ℕ} (p : ℕ) → ListFacts B N size (length image)
     → placedPlace (placedOf (stretchIn (cardWith B N image) (blockList head size) p)) + placedLength (placedOf (stretchIn (cardWith B N image) (blockList head size) p)) ≤ length image
 stretch-inside image head {B} {N} {size} p l = go (ltb p size) refl (walkTo (cardWith B N image) (blockList head size) p) refl
   where

@@ -8,27 +8,27 @@ use native.Mathlib.Omega.{arith}
 use lib.ListN.{length, take, drop, length-drop}
 use lib.Seq.{sets, length-take-le}
 use Rattle.layout.specs.Layout.{indexAt, offsetAt}
-use Rattle.card.specs.Card.{goodCard, pointer}
-use Rattle.ctz.specs.Lists.{SoundList}
-use Rattle.files.specs.Table.{file, findOf}
-use Rattle.files.specs.declared.Table.{Table}
-use Rattle.files.specs.declared.Found.the-variants as found
-use Rattle.plain.specs.Bytes.{bytes}
-use Rattle.plain.specs.Reading.{Part, Given, Bytes, stretchIn}
-use Rattle.plain.proofs.Files.{bytes-length}
-use Rattle.plain.proofs.Reading.{read-sound, stretch-past, stretch-place, stretch-sound}
-use Rattle.reading.specs.Calls.{given, readOf, placedOf, stretchOf, stretchBytes}
-use Rattle.reading.specs.declared.Reading.the-variants as reading
-use Rattle.reading.specs.declared.Placed.the-variants as placed
-use Rattle.reading.proofs.Asks.{ask-file, found-size}
-use Rattle.reading.proofs.Results.{read-file, place-file}
 use Rattle.layout.specs.Numbers.{sizeMax}
 use Rattle.layout.specs.inner.Served.{geometry, blockList}
+use Rattle.card.specs.Card.{goodCard, pointer}
 use Rattle.card.specs.inner.Cards.{cardWith}
+use Rattle.ctz.specs.Lists.{SoundList}
 use Rattle.ctz.proofs.Sounds.{at}
+use Rattle.plain.specs.Bytes.{bytes}
+use Rattle.plain.specs.Reading.{Part, Given, Bytes, stretchIn}
 use Rattle.plain.specs.inner.Forms.{GoodList}
+use Rattle.plain.proofs.Files.{bytes-length}
+use Rattle.plain.proofs.Reading.{read-sound, stretch-past, stretch-place, stretch-sound}
 use Rattle.plain.proofs.Same.{partBytes}
+use Rattle.files.specs.declared.Table.{Table}
+use Rattle.files.specs.declared.Found.the-variants as found
+use Rattle.files.specs.Table.{file, findOf}
+use Rattle.reading.specs.declared.Reading.the-variants as reading
+use Rattle.reading.specs.declared.Placed.the-variants as placed
+use Rattle.reading.specs.Calls.{given, readOf, placedOf, stretchOf, stretchBytes}
 use Rattle.reading.specs.inner.Bounds.{filePosition}
+use Rattle.reading.proofs.Asks.{ask-file, found-size}
+use Rattle.reading.proofs.Results.{read-file, place-file}
 
 -- as many bytes as are there from position p on
 part-long : (bs : List ℕ) (p m : ℕ) → m ≤ length bs - p → length (take m (drop p bs)) ≡ m

@@ -5,20 +5,20 @@ use Prim.Native.Nat.{ℕ, _+_, _-_, _≤_}
 use native.Mathlib.Nat.{add-sub-cancel-left}
 use native.Mathlib.Omega.{arith}
 use lib.ListN.{length, take, drop}
-use Rattle.files.specs.declared.Table.{Table}
+use Rattle.layout.specs.inner.Served.{blockList, geometry}
+use Rattle.card.specs.inner.Cards.{cardWith}
 use Rattle.plain.specs.Reading.{readIn, stretchIn}
-use Rattle.reading.specs.Calls.{given, askedOf, readOf, placedOf, stretchOf, stretchBytes, placedPlace, placedLength}
+use Rattle.plain.specs.inner.Forms.{range}
+use Rattle.files.specs.declared.Table.{Table}
 use Rattle.reading.specs.declared.Asked.{Asked}
 use Rattle.reading.specs.declared.Asked.the-variants as asked
 use Rattle.reading.specs.declared.Reading.the-variants as reading
 use Rattle.reading.specs.declared.Placed.{Placed}
 use Rattle.reading.specs.declared.Placed.the-variants as placed
+use Rattle.reading.specs.Calls.{given, askedOf, readOf, placedOf, stretchOf, stretchBytes, placedPlace, placedLength}
+use Rattle.reading.specs.inner.Bounds.{filePosition}
 use Rattle.reading.proofs.Asks.{listed}
 use Rattle.reading.proofs.Inner.{stretch-inside}
-use Rattle.card.specs.inner.Cards.{cardWith}
-use Rattle.layout.specs.inner.Served.{blockList, geometry}
-use Rattle.plain.specs.inner.Forms.{range}
-use Rattle.reading.specs.inner.Bounds.{filePosition}
 
 module _ (B N : ℕ) (image : List ℕ) (t : Table) (number p : ℕ) where
   abbrev ask : Asked

@@ -6,14 +6,14 @@ use lib.Dec.{ltb}
 use lib.IntN.{ℤ}
 use lib.ListN.{length, take, drop}
 use lib.Seq.{sets}
-use Rattle.layout.specs.Numbers.{sizeMax, accepted, no-file, invalid, damaged-card}
 use Rattle.layout.specs.declared.Geometry.{Geometry}
+use Rattle.layout.specs.Numbers.{sizeMax, accepted, no-file, invalid, damaged-card}
 use Rattle.layout.specs.Layout.{Position}
 use Rattle.card.specs.Card.{Card, goodCard}
-use Rattle.files.specs.Table.{file, findOf}
+use Rattle.plain.specs.Reading.{Part, Given, Bytes, readIn, stretchIn, Gathered}
 use Rattle.files.specs.declared.Table.{Table}
 use Rattle.files.specs.declared.Found.the-variants as found
-use Rattle.plain.specs.Reading.{Part, Given, Got, Bytes, readIn, stretchIn}
+use Rattle.files.specs.Table.{file, findOf}
 use Rattle.reading.specs.declared.Asked.{Asked}
 use Rattle.reading.specs.declared.Asked.the-variants as asked
 use Rattle.reading.specs.declared.Reading.{Reading}
@@ -44,7 +44,7 @@ askedIn c t at = askedOf (record { «block_size» = c .B; «block_count» = c .N
 -- ---- read
 
 -- a read's answer, and the buffer that it leaves
-pub record Outcome : Type 0 where
+pub record ReadOut : Type 0 where
   pub answer : Reading
   pub buffer : List ℕ
 
@@ -62,13 +62,13 @@ readLength reading.Damaged = 0
 readLength reading.Refused = 0
 
 -- The bytes go to the front of the buffer, bytes beyond keep their values; on -84 nothing is copied.
-abbrev pub given : List ℕ → Got → Outcome
+abbrev pub given : List ℕ → Gathered → ReadOut
 given buffer (Bytes bytes) = record { answer = reading.Bytes (length bytes); buffer = sets buffer 0 bytes }
-given buffer Got.Damaged = record { answer = reading.Damaged; buffer = buffer }
-given buffer Got.Refused = record { answer = reading.Refused; buffer = buffer }
+given buffer Gathered.Damaged = record { answer = reading.Damaged; buffer = buffer }
+given buffer Gathered.Refused = record { answer = reading.Refused; buffer = buffer }
 
 -- Read gives min(room, size - position) bytes, 0 at or past the end. Every block touched is looked up first; a refusal leaves the buffer as it came.
-unfoldable pub readOf : Card → Table → FilePosition → List ℕ → Outcome
+unfoldable pub readOf : Card → Table → FilePosition → List ℕ → ReadOut
 readOf c t at buffer =
     elim (askedIn c t at) [
       | asked.File head size ↦

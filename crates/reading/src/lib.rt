@@ -5,8 +5,8 @@ use files::Found;
 use files::Table;
 use layout::Geometry;
 ghost use mathlib.Core.Path.{_≡_};
-ghost use Rattle.reading.specs.Calls.{askedOf, readOf, stretchOf, stretchBytes, placedPlace, placedLength};
 ghost use Rattle.card.specs.Card.{cardOf};
+ghost use Rattle.reading.specs.Calls.{askedOf, readOf, stretchOf, stretchBytes, placedPlace, placedLength};
 
 // What a read answers.
 pub enum Reading {

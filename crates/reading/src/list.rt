@@ -8,12 +8,12 @@ use finding::numbers::least;
 use finding::numbers::remaining;
 ghost use mathlib.Core.Path.{_≡_};
 ghost use lib.ListN.{length};
-ghost use Rattle.plain.specs.Reading.{readIn, stretchIn};
-ghost use Rattle.reading.specs.inner.Bounds.{Listed};
-ghost use Rattle.reading.specs.Calls.{given, placedOf};
-ghost use Rattle.card.specs.inner.Cards.{cardWith};
 ghost use Rattle.layout.specs.inner.Served.{blockList};
+ghost use Rattle.card.specs.inner.Cards.{cardWith};
+ghost use Rattle.ctz.specs.inner.Bounds.{ListFacts};
+ghost use Rattle.plain.specs.Reading.{readIn, stretchIn};
 ghost use Rattle.plain.specs.inner.Forms.{range};
+ghost use Rattle.reading.specs.Calls.{given, placedOf};
 
 // Read: every block touched is looked up before a byte is copied.
 pub fn read_in(
@@ -25,7 +25,7 @@ pub fn read_in(
     pos: u32,
     buffer: &mut [u8],
 ) -> Reading
-    requires { ⌜ Listed b n size (length (now image)) ⌝ }
+    requires { ⌜ ListFacts b n size (length (now image)) ⌝ }
     ensures { λ r. ⌜
         record { answer = r; buffer = now (buffer .exit) }
         ≡ given (now (buffer .entry)) (readIn (cardWith b n (now (image .entry))) (blockList head size) (range pos (length (now (buffer .entry)))))
@@ -43,7 +43,7 @@ pub fn read_in(
 
 // Stretch: from the place of a position to the end of its block or of the file.
 pub fn place_in(b: u32, n: u32, image: &[u8], head: u32, size: u32, pos: u32) -> Placed
-    requires { ⌜ Listed b n size (length (now image)) ⌝ }
+    requires { ⌜ ListFacts b n size (length (now image)) ⌝ }
     ensures { λ r. ⌜ r ≡ placedOf (stretchIn (cardWith b n (now (image .entry))) (blockList head size) pos) ⌝ }
 {
     if size <= pos {

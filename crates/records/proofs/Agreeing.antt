@@ -6,13 +6,13 @@ use Prim.Native.Nat.{ℕ, zero, suc, _+_, _-_, _/_, _≤_, _<_}
 use native.Mathlib.Nat.{zero-div}
 use native.Mathlib.Numerals.{add-one}
 use native.Mathlib.Omega.{arith}
+use borrow.Author.Tests.{eq-eqb, ne-eqb}
 use lib.ListN.{length, List·getD-eq-default}
 use lib.Dec.{eqb}
-use borrow.Author.Tests.{eq-eqb, ne-eqb}
+use Rattle.span.specs.Members.{bitAt}
 use Rattle.window.specs.declared.Lookahead.{Lookahead}
 use Rattle.records.specs.Records.{wordOf}
 use Rattle.records.specs.Agreement.{toldOf, bitsAgree, mapsAgree, windowsAgree}
-use Rattle.span.specs.Members.{bitAt}
 
 -- the words of an answer, and those that the record has
 module _ (list : List ℕ) (at code first second third v : ℕ) (a : v ≡ wordOf list at 0) where

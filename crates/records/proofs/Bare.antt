@@ -4,12 +4,12 @@ use mathlib.Core.Bool.{true, false}
 use Prim.Native.Nat.{ℕ, suc, _-_, _+_, _<_}
 use native.Mathlib.Numerals.{add-one}
 use native.Mathlib.Omega.{arith}
+use borrow.Author.Tests.{lt-ltb, ltb-true}
 use lib.IntN.{ℤ, pos, negsuc}
 use lib.Signed.{mag, ltZ}
 use mir.Syntax.{w32}
 use mir.Val.{SFits, toZ, ofZ}
 use mir.Facts.{toZ-ofZ}
-use borrow.Author.Tests.{lt-ltb, ltb-true}
 use Rattle.records.specs.Agreement.{bareOf}
 
 module _ (z : ℤ) (f : SFits w32 z) where

@@ -5,12 +5,12 @@ use mathlib.Core.List.{List, []}
 use Prim.Native.Nat.{ℕ, suc, _+_, _-_, _*_, _≤_, _<_}
 use native.Mathlib.Nat.{add-sub-cancel-left}
 use native.Mathlib.Omega.{arith}
+use borrow.Author.Tests.{le-leb, lt-leb, lt-ltb, le-ltb}
 use lib.ListN.{length, take, drop, replicate, length-drop}
 use lib.Seq.{sets, take-all, length-take-le}
 use lib.IntN.{negsuc}
 use mir.Syntax.{w32}
 use mir.Val.{toZ}
-use borrow.Author.Tests.{le-leb, lt-leb, lt-ltb, le-ltb}
 use Rattle.span.specs.Words.{wordAt}
 use Rattle.span.proofs.Parts.{sets-over}
 use Rattle.files.proofs.Tests.{leb-cases}

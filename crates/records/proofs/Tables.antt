@@ -5,16 +5,16 @@ use Prim.Native.Nat.{ℕ, zero, suc, _+_, _-_, _*_, _≤_, _<_}
 use native.Mathlib.Nat.{sub-zero, zero-add}
 use native.Mathlib.Numerals.{add-one}
 use native.Mathlib.Omega.{arith}
+use borrow.Author.Tests.{le-leb, lt-leb}
 use lib.ListN.{length, set}
 use lib.Seq.{sets}
-use borrow.Author.Tests.{le-leb, lt-leb}
+use Rattle.layout.specs.Numbers.{filesMax}
 use Rattle.files.specs.declared.Entry.{Entry}
 use Rattle.files.specs.declared.Table.{Table}
 use Rattle.files.specs.Table.{tableOf}
+use Rattle.files.specs.inner.Facts.{appendOf}
 use Rattle.files.proofs.Lists.{append-table}
 use Rattle.records.specs.Records.{wordOf, entriesOf, tableAt}
-use Rattle.layout.specs.Numbers.{filesMax}
-use Rattle.files.specs.inner.Facts.{appendOf}
 
 entries-length : (list : List ℕ) (at i k : ℕ) → length (entriesOf list at i k) ≡ k
 unfolding entriesOf

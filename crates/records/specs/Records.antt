@@ -5,13 +5,13 @@ use Prim.Native.Nat.{ℕ, zero, suc, _+_, _-_, _*_}
 use lib.ListN.{length, take, drop, replicate}
 use lib.Dec.{ltb, leb}
 use lib.IntN.{ℤ, pos, negsuc}
-use Rattle.layout.specs.declared.Geometry.{Geometry}
 use Rattle.span.specs.Words.{wordAt}
+use Rattle.layout.specs.declared.Geometry.{Geometry}
+use Rattle.layout.specs.Numbers.{filesMax}
 use Rattle.files.specs.declared.Entry.{Entry}
 use Rattle.files.specs.declared.Table.{Table}
 use Rattle.files.specs.Table.{tableOf}
 use Rattle.window.specs.declared.Lookahead.{Lookahead}
-use Rattle.layout.specs.Numbers.{filesMax}
 
 -- word k of what stands at byte `at`; 0 where its four bytes are not all in the list
 unfoldable pub wordOf : List ℕ → ℕ → ℕ → ℕ

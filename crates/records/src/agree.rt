@@ -2,8 +2,8 @@
 use crate::word;
 use window::Lookahead;
 ghost use mathlib.Core.Path.{_≡_};
-ghost use Rattle.records.specs.Agreement.{bareOf, toldOf, mapsAgree, windowsAgree};
 ghost use Rattle.span.specs.Members.{bitAt};
+ghost use Rattle.records.specs.Agreement.{bareOf, toldOf, mapsAgree, windowsAgree};
 
 // Whether these are the four words of the answer.
 pub fn told(list: &[u8], at: usize, code: u32, first: u32, second: u32, third: u32) -> bool

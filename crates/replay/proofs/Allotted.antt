@@ -4,12 +4,13 @@ use mathlib.Core.Bool.{Bool, true, false, _&&_}
 use mathlib.Core.List.{List, [], _∷_}
 use Prim.Native.Nat.{ℕ, _≤_, _<_}
 use native.Mathlib.Omega.{arith}
+use borrow.Author.Tests.{eq-eqb, eqb-true, le-leb, lt-leb}
 use lib.Dec.{eqb}
 use lib.ListN.{length, take, drop}
 use lib.Seq.{sets, take-length}
-use borrow.Author.Tests.{eq-eqb, eqb-true, le-leb, lt-leb}
-use Rattle.layout.specs.declared.Geometry.{Geometry}
 use Rattle.span.proofs.Parts.{part-sets}
+use Rattle.layout.specs.declared.Geometry.{Geometry}
+use Rattle.card.specs.inner.Cards.{cardWith}
 use Rattle.files.specs.declared.Table.{Table}
 use Rattle.files.proofs.Tests.{both-left, both-right}
 use Rattle.window.specs.declared.Lookahead.{Lookahead}
@@ -17,15 +18,14 @@ use Rattle.window.specs.declared.Allocated.{Allocated}
 use Rattle.alloc.specs.Allocate.{allocateOf}
 use Rattle.grow.specs.declared.Grew.{Grew}
 use Rattle.grow.specs.Extend.{extendOf}
-use Rattle.records.specs.Records.{wordOf, bytesAt, geometryOf, imageOf, windowOf, tableAt}
-use Rattle.records.specs.Agreement.{bareOf, toldOf, windowsAgree}
-use Rattle.told_windows.specs.Windows.{allocatedTold, grewTold}
+use Rattle.grow.specs.inner.Setting.{setting, state}
+use Rattle.grow.specs.inner.Gives.{GrewGives}
 use Rattle.told_windows.specs.declared.TidAlloc.{TidAlloc}
 use Rattle.told_windows.specs.declared.TidExtend.{TidExtend}
+use Rattle.told_windows.specs.Windows.{allocatedTold, grewTold}
+use Rattle.records.specs.Records.{wordOf, bytesAt, geometryOf, imageOf, windowOf, tableAt}
+use Rattle.records.specs.Agreement.{bareOf, toldOf, windowsAgree}
 use Rattle.replay.specs.Blocks.{allocOn, allocEqual, bytesAgree, extendOn, grewEqual, grownEqual, extendEqual}
-use Rattle.grow.specs.inner.Setting.{setting, state}
-use Rattle.card.specs.inner.Cards.{cardWith}
-use Rattle.grow.specs.inner.Gives.{GrewGives}
 
 -- an allocation on a card, and the record of it
 pub alloc-on : (list : List ℕ) (card l p : ℕ) (g : Geometry) (image : List ℕ) (t : Table) (w : Lookahead) (a : Allocated) → g ≡ geometryOf list card

@@ -8,23 +8,23 @@ use native.Mathlib.Omega.{arith}
 use borrow.Author.Tests.{eq-eqb, ne-eqb}
 use Rattle.layout.specs.declared.Geometry.{Geometry}
 use Rattle.layout.specs.declared.Place.{Place}
-use Rattle.ctz.specs.Lookup.{lookupOf}
-use Rattle.ctz.specs.Visits.{beginOf, traverseOf}
+use Rattle.layout.specs.Layout.{placeOf}
+use Rattle.layout.specs.inner.Served.{blockList, geometry}
+use Rattle.card.specs.inner.Cards.{cardWith}
 use Rattle.ctz.specs.declared.Found.{Found}
 use Rattle.ctz.specs.declared.visit.Visit.{Visit}
 use Rattle.ctz.specs.declared.visit.Begun.{Begun}
 use Rattle.ctz.specs.declared.visit.Begun.the-variants as begun
 use Rattle.ctz.specs.declared.visit.Step.{Step}
 use Rattle.ctz.specs.declared.visit.Step.the-variants as step
-use Rattle.records.specs.Records.{wordOf, geometryOf, imageOf}
-use Rattle.records.specs.Agreement.{bareOf, toldOf}
-use Rattle.told_lists.specs.Lists.{placeTold, foundTold}
+use Rattle.ctz.specs.Lookup.{lookupOf}
+use Rattle.ctz.specs.Visits.{beginOf, traverseOf}
 use Rattle.told_lists.specs.declared.TidIndex.{TidIndex}
 use Rattle.told_lists.specs.declared.TidFind.{TidFind}
+use Rattle.told_lists.specs.Lists.{placeTold, foundTold}
+use Rattle.records.specs.Records.{wordOf, geometryOf, imageOf}
+use Rattle.records.specs.Agreement.{bareOf, toldOf}
 use Rattle.replay.specs.Lists.{indexEqual, lookupOn, findEqual, stepOn, visitedOf, begunEqual, visitOn, visitEqual}
-use Rattle.layout.specs.Layout.{placeOf}
-use Rattle.card.specs.inner.Cards.{cardWith}
-use Rattle.layout.specs.inner.Served.{blockList, geometry}
 
 pub index-is : (list : List ℕ) (at b p code : ℕ) (f : Place) (a : TidIndex) (r : Bool) → b ≡ wordOf list at 4 → p ≡ wordOf list at 5 → f ≡ placeOf b p → a ≡ placeTold f
     → code ≡ bareOf (a .code)

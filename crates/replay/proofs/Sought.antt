@@ -3,23 +3,23 @@ use mathlib.Core.Path.{_≡_, _∙_}
 use mathlib.Core.Bool.{Bool}
 use mathlib.Core.List.{List, []}
 use Prim.Native.Nat.{ℕ, _<_}
+use borrow.Author.Tests.{eq-eqb, ne-eqb}
 use lib.ListN.{set}
 use lib.IntN.{ℤ}
 use lib.Signed.{mag}
 use mir.Syntax.{w32}
 use mir.Val.{SFits, toZ, ofZ}
 use mir.Facts.{toZ-ofZ}
-use borrow.Author.Tests.{eq-eqb, ne-eqb}
+use Rattle.layout.specs.Numbers.{nullBlock}
 use Rattle.files.specs.declared.Table.{Table}
 use Rattle.files.specs.declared.position.Sought.{Sought}
 use Rattle.files.specs.Table.{tableOf}
 use Rattle.files.specs.Seek.{seekOf}
+use Rattle.told_tables.specs.declared.TidSeek.{TidSeek}
+use Rattle.told_tables.specs.Tables.{soughtTold}
 use Rattle.records.specs.Records.{wordOf, signedOf}
 use Rattle.records.specs.Agreement.{bareOf, toldOf}
-use Rattle.told_tables.specs.Tables.{soughtTold}
-use Rattle.told_tables.specs.declared.TidSeek.{TidSeek}
 use Rattle.replay.specs.Files.{someHead, oneFile, seekEqual}
-use Rattle.layout.specs.Numbers.{nullBlock}
 
 pub head-none : (size : ℕ) → size ≡ 0 → nullBlock ≡ someHead size
 unfolding someHead

@@ -4,17 +4,17 @@ use mathlib.Core.List.{List, [], _∷_}
 use Prim.Native.Nat.{ℕ}
 use lib.Dec.{leb, eqb}
 use lib.ListN.{length}
+use Rattle.card.specs.inner.Cards.{cardWith}
 use Rattle.window.specs.declared.Lookahead.{Lookahead}
 use Rattle.window.specs.declared.Allocated.{Allocated}
 use Rattle.alloc.specs.Allocate.{allocateOf}
 use Rattle.grow.specs.Extend.{extendOf, GrowOut}
-use Rattle.records.specs.Records.{wordOf, bytesAt, imageOf, windowOf, tableAt}
-use Rattle.records.specs.Agreement.{bareOf, toldOf, windowsAgree}
-use Rattle.told_windows.specs.Windows.{allocatedTold, extendTold}
+use Rattle.grow.specs.inner.Setting.{setting, state}
 use Rattle.told_windows.specs.declared.TidAlloc.{TidAlloc}
 use Rattle.told_windows.specs.declared.TidExtend.{TidExtend}
-use Rattle.grow.specs.inner.Setting.{setting, state}
-use Rattle.card.specs.inner.Cards.{cardWith}
+use Rattle.told_windows.specs.Windows.{allocatedTold, extendTold}
+use Rattle.records.specs.Records.{wordOf, bytesAt, imageOf, windowOf, tableAt}
+use Rattle.records.specs.Agreement.{bareOf, toldOf, windowsAgree}
 
 -- the window afterwards, whose place is word 6, then the block
 abbrev pub allocatedEqual : List ℕ → ℕ → TidAlloc → Bool

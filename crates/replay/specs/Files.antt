@@ -3,14 +3,14 @@ use mathlib.Core.Bool.{Bool, true, false}
 use mathlib.Core.List.{List, [], _∷_}
 use Prim.Native.Nat.{ℕ}
 use lib.Dec.{eqb}
+use Rattle.layout.specs.Numbers.{nullBlock}
 use Rattle.files.specs.declared.Table.{Table}
 use Rattle.files.specs.Table.{tableOf}
 use Rattle.files.specs.Seek.{seekOf}
+use Rattle.told_tables.specs.declared.TidSeek.{TidSeek}
+use Rattle.told_tables.specs.Tables.{soughtTold}
 use Rattle.records.specs.Records.{wordOf, signedOf}
 use Rattle.records.specs.Agreement.{bareOf, toldOf}
-use Rattle.told_tables.specs.Tables.{soughtTold}
-use Rattle.told_tables.specs.declared.TidSeek.{TidSeek}
-use Rattle.layout.specs.Numbers.{nullBlock}
 
 -- the position
 abbrev pub soughtEqual : List ℕ → ℕ → TidSeek → Bool

@@ -5,22 +5,22 @@ use mathlib.Core.List.{List}
 use Prim.Native.Nat.{ℕ, zero, suc}
 use lib.Dec.{eqb}
 use Rattle.layout.specs.Numbers.{accepted, invalid, damaged-card}
-use Rattle.ctz.specs.Lookup.{lookupOf}
-use Rattle.ctz.specs.Visits.{beginOf, traverseOf}
+use Rattle.layout.specs.Layout.{placeOf}
+use Rattle.layout.specs.inner.Served.{blockList, geometry}
+use Rattle.card.specs.inner.Cards.{cardWith}
 use Rattle.ctz.specs.declared.Found.{Found}
 use Rattle.ctz.specs.declared.visit.Visit.{Visit}
 use Rattle.ctz.specs.declared.visit.Begun.{Begun}
 use Rattle.ctz.specs.declared.visit.Begun.the-variants as begun
 use Rattle.ctz.specs.declared.visit.Step.{Step}
 use Rattle.ctz.specs.declared.visit.Step.the-variants as step
-use Rattle.records.specs.Records.{wordOf, imageOf}
-use Rattle.records.specs.Agreement.{bareOf, toldOf}
-use Rattle.told_lists.specs.Lists.{placeTold, foundTold}
+use Rattle.ctz.specs.Lookup.{lookupOf}
+use Rattle.ctz.specs.Visits.{beginOf, traverseOf}
 use Rattle.told_lists.specs.declared.TidIndex.{TidIndex}
 use Rattle.told_lists.specs.declared.TidFind.{TidFind}
-use Rattle.layout.specs.Layout.{placeOf}
-use Rattle.card.specs.inner.Cards.{cardWith}
-use Rattle.layout.specs.inner.Served.{blockList, geometry}
+use Rattle.told_lists.specs.Lists.{placeTold, foundTold}
+use Rattle.records.specs.Records.{wordOf, imageOf}
+use Rattle.records.specs.Agreement.{bareOf, toldOf}
 
 -- index and offset
 abbrev pub placeEqual : List ℕ → ℕ → TidIndex → Bool

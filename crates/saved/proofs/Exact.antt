@@ -6,6 +6,7 @@ use Prim.Native.Nat.{ℕ, zero, suc, _≤_, _<_}
 use native.Mathlib.Omega.{arith}
 use lib.ListN.{length}
 use lib.Dec.{leb, eqb}
+use Rattle.layout.specs.Numbers.{filesMax, numberMax, sizeMax, nullBlock, headMax}
 use Rattle.files.specs.declared.Entry.{Entry}
 use Rattle.files.specs.declared.Table.{Table}
 use Rattle.files.specs.Table.{held, tableOf, filesOk, tableOk}
@@ -19,7 +20,6 @@ use Rattle.saved.specs.Load.{damaged, read, readUpTo, readHead, readSize
 use Rattle.saved.specs.Save.{headBytes, entryBytes, filesBytes, saveOf, groups}
 use Rattle.saved.proofs.Numbers.{Bytes, InRange, up-to-was, reading-cases}
 use Rattle.saved.proofs.Steps.{head-none, head-some}
-use Rattle.layout.specs.Numbers.{filesMax, numberMax, sizeMax, nullBlock, headMax}
 
 clash : {A : Type 0} {X : Type 0} (a : A) (w : List ℕ) → damaged ≡ read a w → X
 clash a w e = let z : _≡_ {A = ℕ} 0 1 = cc in absurd (omega arith)

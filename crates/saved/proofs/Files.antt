@@ -6,6 +6,7 @@ use native.Mathlib.Numerals.{add-one}
 use native.Mathlib.Omega.{arith}
 use lib.ListN.{length, drop, set, replicate, length-append, length-drop, drop-of-length-le}
 use lib.Seq.{drop-cons, getD-drop, set-append-seam, append-snoc}
+use Rattle.layout.specs.Numbers.{filesMax, numberMax, sizeMax, headMax}
 use Rattle.files.specs.declared.Entry.{Entry}
 use Rattle.files.specs.declared.Table.{Table}
 use Rattle.files.specs.Table.{noEntry, tableOf}
@@ -21,7 +22,6 @@ use Rattle.saved.specs.inner.Steps.{numberTold, NumberPost, entryTold, E
 use Rattle.saved.proofs.Numbers.{Bytes, up-to-le}
 use Rattle.saved.proofs.Steps.{head-no, head-yes, size-no, size-empty, size-some, entry-no, entry-low, entry-yes, files-no, files-yes, load-no, load-yes}
 use Rattle.saved.proofs.Exact.{entry-was}
-use Rattle.layout.specs.Numbers.{filesMax, numberMax, sizeMax, headMax}
 
 -- ---- a number
 

@@ -5,12 +5,12 @@ use mathlib.Core.List.{List, [], _∷_, _++_}
 use Prim.Native.Nat.{ℕ, zero, suc, _+_, _-_, _*_, _/_, _%_, _^_, _≤_, _<_}
 use native.Mathlib.Nat.{le-refl}
 use native.Mathlib.Omega.{arith}
-use lib.ListN.{length, getD}
 use borrow.Author.Tests.{lt-ltb, le-ltb, le-leb, eq-eqb, ne-eqb}
+use lib.ListN.{length, getD}
 use Rattle.files.proofs.Tests.{ltb-cases, leb-cases, eqb-cases}
-use Rattle.saved.specs.inner.Steps.{Counted}
 use Rattle.saved.specs.Load.{damaged, read, readNumber, upTo, readUpTo, thenRead, groupBefore, Parsed}
 use Rattle.saved.specs.Save.{groups, groupsBy}
+use Rattle.saved.specs.inner.Steps.{Counted}
 
 -- more room changes nothing
 enough : (f g n : ℕ) → n ≤ f → n ≤ g → groupsBy f n ≡ groupsBy g n

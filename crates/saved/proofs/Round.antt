@@ -5,6 +5,7 @@ use mathlib.Core.List.{List, [], _∷_, _++_, append-assoc, append-nil}
 use Prim.Native.Nat.{ℕ, suc}
 use native.Mathlib.Omega.{arith}
 use lib.ListN.{length}
+use Rattle.layout.specs.Numbers.{filesMax, numberMax, sizeMax, nullBlock, headMax}
 use Rattle.files.specs.declared.Entry.{Entry}
 use Rattle.files.specs.declared.Table.{Table}
 use Rattle.files.specs.Table.{held, tableOf, filesOk, tableOk}
@@ -16,7 +17,6 @@ use Rattle.saved.specs.Load.{read, readSize, readEntry, readFiles, finis
 use Rattle.saved.specs.Save.{headBytes, entryBytes, filesBytes, saveOf, groups}
 use Rattle.saved.proofs.Steps.{head-none, head-some, head-yes, size-empty, size-some, entry-yes, files-yes, load-yes}
 use Rattle.saved.proofs.Numbers.{up-to}
-use Rattle.layout.specs.Numbers.{filesMax, numberMax, sizeMax, nullBlock, headMax}
 
 -- a file without bytes is the empty file
 empty-is : (e : Entry) → e .size ≡ 0 → e .head ≡ nullBlock → emptyFile (e .number) ≡ e

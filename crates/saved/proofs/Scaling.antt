@@ -6,10 +6,10 @@ use Prim.Native.Nat.{ℕ, zero, _+_, _-_, _*_, _≤_, _<_, _^_}
 use native.Mathlib.Nat.{mul-add, mul-assoc, mul-le-mul, le-refl, add-assoc}
 use native.Mathlib.Numerals.{add-one}
 use native.Mathlib.Omega.{arith}
+use borrow.Author.Tests.{lt-ltb, le-ltb, le-leb, lt-leb, eq-eqb, ne-eqb}
 use lib.ListN.{length, drop, getD, drop-of-length-le}
 use lib.Seq.{drop-cons}
 use lib.Dec.{ltb, leb, eqb}
-use borrow.Author.Tests.{lt-ltb, le-ltb, le-leb, lt-leb, eq-eqb, ne-eqb}
 use Rattle.files.proofs.Tests.{eqb-cases, leb-cases, bool-cases}
 use Rattle.saved.specs.declared.read.NumberRead.{NumberRead}
 use Rattle.saved.specs.declared.read.NumberRead.the-variants as number

@@ -3,14 +3,14 @@ use mathlib.Core.Path.{_≡_, ap}
 use mathlib.Core.List.{List, []}
 use Prim.Native.Nat.{ℕ, suc, _+_, _≤_, _<_}
 use native.Mathlib.Omega.{arith}
-use lib.ListN.{length, length-append}
 use borrow.Author.Tests.{le-leb, lt-leb, eq-eqb, ne-eqb}
+use lib.ListN.{length, length-append}
+use Rattle.layout.specs.Numbers.{filesMax, numberMax, sizeMax, headMax}
 use Rattle.files.specs.declared.Entry.{Entry}
 use Rattle.files.specs.Change.{emptyFile}
-use Rattle.saved.specs.inner.Steps.{Counted}
 use Rattle.saved.specs.Load.{damaged, read, readUpTo, readHead, readSize, readEntry, readFiles, refusedLoad, finish, loadOf, fileBefore, thenRead}
 use Rattle.saved.specs.Save.{headBytes, entryBytes, groups}
-use Rattle.layout.specs.Numbers.{filesMax, numberMax, sizeMax, headMax}
+use Rattle.saved.specs.inner.Steps.{Counted}
 
 pub head-none : (e : Entry) → e .size ≡ 0 → headBytes e ≡ []
 unfolding headBytes

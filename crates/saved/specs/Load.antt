@@ -3,12 +3,12 @@ use mathlib.Core.Bool.{true, false}
 use mathlib.Core.List.{List, [], _∷_}
 use Prim.Native.Nat.{ℕ, zero, suc, _+_, _-_, _*_}
 use lib.Dec.{ltb, leb, eqb}
+use Rattle.layout.specs.Numbers.{filesMax, numberMax, sizeMax, headMax}
 use Rattle.files.specs.declared.Entry.{Entry}
 use Rattle.files.specs.Table.{tableOf}
 use Rattle.files.specs.Change.{emptyFile}
 use Rattle.saved.specs.declared.Loading.the-variants as loading
 use Rattle.saved.specs.declared.Loaded.{Loaded}
-use Rattle.layout.specs.Numbers.{filesMax, numberMax, sizeMax, headMax}
 
 -- what reading some bytes gives: bytes that are damaged, or what was read and the bytes that follow
 pub data Parsed (A : Type 0) : Type 0 where

@@ -7,9 +7,9 @@ use layout::Geometry;
 ghost use mathlib.Core.Path.{_≡_};
 ghost use Prim.Native.Nat.{_≤_, _<_};
 ghost use lib.ListN.{drop};
+ghost use Rattle.layout.specs.Numbers.{filesMax};
 ghost use Rattle.saved.specs.Load.{readFiles, refusedLoad, finish};
 ghost use Rattle.saved.specs.inner.Steps.{Scaled, lastOf, NumberPost, EntryPost};
-ghost use Rattle.layout.specs.Numbers.{filesMax};
 
 // A number that was read, and the place after it.
 pub enum NumberRead {

@@ -4,22 +4,22 @@ use mathlib.Core.Bool.{true, false}
 use mathlib.Core.List.{List, []}
 use Prim.Native.Nat.{ℕ, _+_, _-_, _≤_, _<_}
 use lib.ListN.{length}
+use Rattle.layout.specs.Numbers.{sizeMax}
 use Rattle.files.specs.declared.Table.{Table}
 use Rattle.files.specs.declared.Found.the-variants as place
 use Rattle.files.specs.Table.{file, findOf}
 use Rattle.window.specs.declared.Lookahead.{Lookahead}
-use Rattle.store.specs.declared.Outcome.the-variants as outcome
-use Rattle.old_list.specs.Write.{zeros}
-use Rattle.store.specs.Store.{StoreOut, left, writtenOf, atFile, storeWrite, storeTruncate}
-use Rattle.store.proofs.Files as files
-use Rattle.layout.specs.Numbers.{sizeMax}
-use Rattle.store.specs.inner.Store.{writeFile, shrinks, truncateFile}
 use Rattle.grow.specs.Setting.{testedOf}
 use Rattle.grow.specs.inner.Setting.{setting, state}
+use Rattle.old_list.specs.Write.{zeros}
+use Rattle.new_list.specs.inner.Put.{puts}
+use Rattle.store.specs.declared.Outcome.the-variants as outcome
+use Rattle.store.specs.Store.{StoreOut, left, writtenOf, atFile, storeWrite, storeTruncate}
+use Rattle.store.specs.inner.Store.{writeFile, shrinks, truncateFile}
 use Rattle.store.specs.inner.Calls.{askWrite, askTruncate}
+use Rattle.store.proofs.Files as files
 use Rattle.store.proofs.Tested.{asked}
 use Rattle.store.proofs.Same.{file-same, size-same}
-use Rattle.new_list.specs.inner.Put.{puts}
 
 -- ---- write
 

@@ -10,20 +10,20 @@ use lib.ListN.{take, drop, replicate}
 use Rattle.span.specs.Words.{bytes32, wordAt}
 use Rattle.layout.specs.Numbers.{nullBlock}
 use Rattle.layout.specs.Layout.{pointers, capacity, start, indexAt, offsetAt}
+use Rattle.layout.specs.inner.Served.{blockList}
+use Rattle.card.specs.Card.{pointer}
+use Rattle.card.specs.inner.Cards.{cardWith}
 use Rattle.device.specs.Device.{stored, wiped}
-use Rattle.ctz.specs.Lookup.{walk, walkTo}
 use Rattle.ctz.specs.declared.Found.the-variants.{At}
+use Rattle.ctz.specs.Lookup.{walk, walkTo}
 use Rattle.files.specs.declared.Entry.{Entry}
+use Rattle.files.specs.Table.{listOf}
 use Rattle.trials.specs.Steps.{done, series, programs}
 use Rattle.trials.specs.Trial.{takenBy}
 use Rattle.trials.specs.Loop.{Took, Block, None, WriteOut, Written, NoRoom, tried, followed, turnOf, writeBy}
 use Rattle.grow.specs.Growth.{links, growth}
 use Rattle.old_list.specs.Write.{Look, kept, ahead, then, tail, trialOf, planOf, starts, wanted, looked, firstHead, jobOf}
 use Rattle.store.specs.Store.{lookOn}
-use Rattle.card.specs.Card.{pointer}
-use Rattle.card.specs.inner.Cards.{cardWith}
-use Rattle.layout.specs.inner.Served.{blockList}
-use Rattle.files.specs.Table.{listOf}
 
 abbrev handed : Bool → ℕ → Took ℕ
 handed b w = elim b [ true ↦ Block w (suc w) | false ↦ None w ]

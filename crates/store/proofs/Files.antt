@@ -6,28 +6,28 @@ use Prim.Native.Nat.{ℕ, _+_, _-_, _≤_, _<_}
 use borrow.Author.Tests.{lt-ltb, le-ltb, eq-eqb, ne-eqb}
 use lib.Dec.{eqb}
 use lib.ListN.{length}
+use Rattle.layout.specs.Numbers.{sizeMax, nullBlock}
+use Rattle.layout.specs.inner.Served.{blockList}
+use Rattle.card.specs.inner.Cards.{cardWith}
 use Rattle.ctz.specs.declared.Found.{Found}
 use Rattle.ctz.specs.declared.Found.the-variants as found
 use Rattle.ctz.specs.Lookup.{walkTo}
 use Rattle.files.specs.declared.Table.{Table}
 use Rattle.files.specs.Table.{file}
+use Rattle.files.specs.Change.{withList}
 use Rattle.window.specs.declared.Lookahead.{Lookahead}
-use Rattle.store.specs.declared.Outcome.{Outcome}
-use Rattle.store.specs.declared.Outcome.the-variants as outcome
-use Rattle.store.specs.declared.Stored.{Stored}
+use Rattle.trials.specs.Loop.{Writing, Written, NoRoom, Corrupt, WriteOut}
+use Rattle.old_list.specs.Write.{zeros}
 use Rattle.new_list.specs.declared.Writing as declared
 use Rattle.new_list.specs.declared.Writing.the-variants as writing
 use Rattle.new_list.specs.declared.Wrote.{Wrote}
-use Rattle.old_list.specs.Write.{zeros}
-use Rattle.store.specs.Store.{storedOf, StoreOut, left, written, writtenOf}
 use Rattle.new_list.specs.inner.Put.{wroteOf, WroteGives, puts}
 use Rattle.new_list.proofs.Puts.{puts-as-gap}
-use Rattle.layout.specs.Numbers.{sizeMax, nullBlock}
-use Rattle.trials.specs.Loop.{Writing, Written, NoRoom, Corrupt, WriteOut}
+use Rattle.store.specs.declared.Outcome.{Outcome}
+use Rattle.store.specs.declared.Outcome.the-variants as outcome
+use Rattle.store.specs.declared.Stored.{Stored}
+use Rattle.store.specs.Store.{storedOf, StoreOut, left, written, writtenOf}
 use Rattle.store.specs.inner.Store.{stays, writeFile, shrunk, shrinks, truncateFile}
-use Rattle.card.specs.inner.Cards.{cardWith}
-use Rattle.layout.specs.inner.Served.{blockList}
-use Rattle.files.specs.Change.{withList}
 use Rattle.store.specs.inner.Gives.{StoreGives}
 use Rattle.store.specs.inner.Calls.{finishOf}
 

@@ -6,10 +6,10 @@ use native.Mathlib.Omega.{arith}
 use lib.ListN.{length, take, drop, replicate, length-take, length-replicate}
 use Rattle.layout.specs.Layout.{pointers, start, indexAt, offsetAt}
 use Rattle.device.specs.Device.{stored}
+use Rattle.device.specs.inner.Bounds.{spot}
 use Rattle.device.proofs.Frame.{stored-append}
 use Rattle.grow.specs.inner.Grow.{part}
 use Rattle.old_list.specs.Write.{zeros, Job, over, lead, ahead}
-use Rattle.device.specs.inner.Bounds.{spot}
 use Rattle.new_block.specs.inner.Fill.{fronted, tailed}
 
 zeros-front : (m n z : ℕ) (ys : List ℕ) → z ≡ min m n → take n (replicate m 0 ++ ys) ≡ replicate z 0 ++ take (n - z) ys

@@ -8,11 +8,11 @@ use borrow.Author.Tests.{ltb-true}
 use lib.Dec.{ltb}
 use lib.ListN.{length, take, length-append, length-drop, length-replicate}
 use Rattle.trials.specs.Trial.{Trial, Ending, Fault, ends, more, whole}
+use Rattle.trials.specs.Loop.{Candidate}
 use Rattle.grow.specs.Growth.{offset, with, growth}
 use Rattle.grow.specs.inner.Grow.{part}
 use Rattle.grow.proofs.Pointed.{part-block}
 use Rattle.old_list.specs.Write.{Job, Look, Found, Lost, lead, ahead, then, width, tail, trialOf}
-use Rattle.trials.specs.Loop.{Candidate}
 
 pub length-ahead : (j : Job) (s : ℕ) → length (ahead j s) ≡ lead j s
 unfolding ahead

@@ -6,6 +6,9 @@ use Prim.Native.Nat.{ℕ, _+_}
 use borrow.Author.Tests.{ltb-true, ltb-false, eqb-true, eqb-false}
 use lib.Dec.{ltb, eqb}
 use lib.ListN.{length}
+use Rattle.layout.specs.Numbers.{sizeMax, nullBlock}
+use Rattle.layout.specs.inner.Served.{blockList}
+use Rattle.card.specs.inner.Cards.{cardWith}
 use Rattle.ctz.specs.declared.Found.{Found}
 use Rattle.ctz.specs.declared.Found.the-variants as found
 use Rattle.ctz.specs.Lookup.{walkTo}
@@ -13,21 +16,18 @@ use Rattle.files.specs.declared.Table.{Table}
 use Rattle.files.specs.declared.Found as files
 use Rattle.files.specs.declared.Found.the-variants as place
 use Rattle.files.specs.Table.{file, findOf}
+use Rattle.files.specs.Change.{withList}
 use Rattle.window.specs.declared.Lookahead.{Lookahead}
+use Rattle.trials.specs.Loop.{Writing, Written, NoRoom, Corrupt, WriteOut}
+use Rattle.grow.specs.Setting.{testedOf}
+use Rattle.grow.specs.inner.Setting.{setting, state}
+use Rattle.new_list.specs.inner.Put.{puts}
 use Rattle.store.specs.declared.Outcome.{Outcome}
 use Rattle.store.specs.declared.Outcome.the-variants as outcome
 use Rattle.store.specs.Store.{StoreOut, left, written, writtenOf, storeWrite, storeTruncate}
-use Rattle.grow.specs.inner.Setting.{setting, state}
 use Rattle.store.specs.inner.Calls.{askWrite, askTruncate}
-use Rattle.store.proofs.Calls as calls
-use Rattle.layout.specs.Numbers.{sizeMax, nullBlock}
-use Rattle.trials.specs.Loop.{Writing, Written, NoRoom, Corrupt, WriteOut}
 use Rattle.store.specs.inner.Store.{shrunk, shrinks}
-use Rattle.card.specs.inner.Cards.{cardWith}
-use Rattle.layout.specs.inner.Served.{blockList}
-use Rattle.files.specs.Change.{withList}
-use Rattle.grow.specs.Setting.{testedOf}
-use Rattle.new_list.specs.inner.Put.{puts}
+use Rattle.store.proofs.Calls as calls
 
 -- the ways of a call: all as it came, or, behind the tests, done with another size and head of one file, -28 or -84
 pub data Ends (w : Lookahead) (t : Table) (image : List ℕ) : StoreOut → Type 0 where

@@ -5,14 +5,13 @@ use mathlib.Core.List.{List, [], _∷_, _++_}
 use Prim.Native.Nat.{ℕ}
 use lib.Count.{trailingZeros, leadingZeros}
 use lib.ListN.{replicate}
-use Rattle.grow.specs.Setting.{testedOf}
 use Rattle.span.specs.Words.{bytes32, wordAt}
 use Rattle.layout.specs.Layout.{pointers, capacity, start, indexAt, offsetAt}
 use Rattle.card.specs.Card.{goodCard, pointer}
+use Rattle.health.specs.Health.{eachValid, healthOk}
+use Rattle.device.specs.Device.{stored, wiped}
 use Rattle.ctz.specs.Lookup.{walk, walkTo}
 use Rattle.ctz.specs.Visits.{visitOf, visit, hand}
-use Rattle.device.specs.Device.{stored, wiped}
-use Rattle.health.specs.Health.{eachValid, healthOk}
 use Rattle.files.specs.declared.Table.{Table}
 use Rattle.files.specs.Table.{searchOf, findOf, headOk, entryOk, filesOk, tableOf, tableOk}
 use Rattle.window.specs.declared.Lookahead.{Lookahead}
@@ -23,9 +22,10 @@ use Rattle.alloc.specs.Visits.{seenIn}
 use Rattle.trials.specs.Steps.{done, series, programs}
 use Rattle.trials.specs.Trial.{takenBy}
 use Rattle.trials.specs.Loop.{tried, followed, turnOf, writeBy}
+use Rattle.grow.specs.Setting.{testedOf}
 use Rattle.grow.specs.Growth.{links, growth}
-use Rattle.store.specs.declared.Outcome.the-variants as outcome
 use Rattle.old_list.specs.Write.{ahead, then, tail, trialOf, starts, wanted, looked, firstHead}
+use Rattle.store.specs.declared.Outcome.the-variants as outcome
 use Rattle.store.specs.Store.{StoreOut, left, putOn, atFile, writeAt, storeWrite}
 
 -- The file is 372 bytes of 7 in blocks 0, 1 and 2, all three full. Pointer 1 of block 2 should name block 0 and names p. Blocks 3, 4 and 5 are given.

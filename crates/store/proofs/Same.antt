@@ -8,6 +8,8 @@ use borrow.Author.Tests.{ltb-false, eqb-false}
 use lib.Dec.{ltb, eqb}
 use lib.ListN.{length, length-replicate}
 use Rattle.layout.specs.Numbers.{sizeMax}
+use Rattle.layout.specs.inner.Served.{blockList}
+use Rattle.card.specs.inner.Cards.{cardWith}
 use Rattle.ctz.specs.declared.Found as ctz
 use Rattle.ctz.specs.declared.Found.the-variants as found
 use Rattle.ctz.specs.Lookup.{walkTo}
@@ -21,16 +23,14 @@ use Rattle.grow.specs.inner.Setting.{setting, state}
 use Rattle.grow.specs.inner.Extend.{windowAlloc}
 use Rattle.grow.proofs.Same.{window-falls}
 use Rattle.old_list.specs.Write.{zeros, kept, wanted, looked, firstHead, jobOf}
-use Rattle.store.specs.Store.{lookOn, putOn, writtenOf, writeAt, cutDown, truncateAt}
+use Rattle.old_list.specs.inner.Lookups.{lookIn}
 use Rattle.new_list.specs.inner.Write.{putOf}
+use Rattle.new_list.specs.inner.Put.{puts}
+use Rattle.store.specs.Store.{lookOn, putOn, writtenOf, writeAt, cutDown, truncateAt}
 use Rattle.store.specs.inner.Store.{writeFile, shrunk, shrinks, truncateFile}
 use Rattle.store.specs.inner.Calls.{askWrite, askTruncate, CallAsked}
 use Rattle.store.proofs.Files.{shrinks-some}
 use Rattle.store.proofs.Equal.{write-same}
-use Rattle.card.specs.inner.Cards.{cardWith}
-use Rattle.layout.specs.inner.Served.{blockList}
-use Rattle.old_list.specs.inner.Lookups.{lookIn}
-use Rattle.new_list.specs.inner.Put.{puts}
 
 module _ (B N l : ℕ) (image health : List ℕ) (w : Lookahead) (t : Table) (i : ℕ) (a : CallAsked B N l image health w t i) where
   pub put-same : (p : ℕ) (src : List ℕ) → p + length src ≤ sizeMax → 0 < p + length src

@@ -5,19 +5,19 @@ use mathlib.Core.List.{List, [], _∷_, _++_}
 use Prim.Native.Nat.{ℕ}
 use lib.Count.{trailingZeros, leadingZeros}
 use lib.ListN.{replicate}
-use Rattle.grow.specs.Setting.{testedOf}
 use Rattle.span.specs.Words.{wordAt}
 use Rattle.layout.specs.Layout.{pointers, capacity, start, indexAt, offsetAt}
+use Rattle.layout.specs.Numbers.{nullBlock}
 use Rattle.card.specs.Card.{goodCard, pointer}
-use Rattle.ctz.specs.Lookup.{walk, walkTo}
 use Rattle.health.specs.Health.{eachValid, healthOk}
+use Rattle.ctz.specs.Lookup.{walk, walkTo}
 use Rattle.files.specs.declared.Table.{Table}
 use Rattle.files.specs.Table.{searchOf, findOf, headOk, entryOk, filesOk, tableOf, tableOk}
 use Rattle.window.specs.declared.Lookahead.{Lookahead}
 use Rattle.window.specs.Value.{lookaheadFits, validOf}
+use Rattle.grow.specs.Setting.{testedOf}
 use Rattle.store.specs.declared.Outcome.the-variants as outcome
 use Rattle.store.specs.Store.{StoreOut, left, atFile, cutDown, truncateAt, storeTruncate}
-use Rattle.layout.specs.Numbers.{nullBlock}
 
 -- The file is 260 bytes in blocks 2, 0 and 1: 128 of 7; 124 of 8 behind a pointer; 8 of 9 behind two. The first of those should name block 0 and names p.
 abbrev card : ℕ → List ℕ

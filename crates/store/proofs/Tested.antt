@@ -6,6 +6,8 @@ use Prim.Native.Nat.{ℕ, _+_, _≤_, _<_}
 use native.Mathlib.Nat.{le-of-eq}
 use native.Mathlib.Omega.{arith}
 use lib.ListN.{length}
+use Rattle.layout.specs.Numbers.{filesMax, sizeMax}
+use Rattle.layout.specs.inner.Served.{geometry}
 use Rattle.card.specs.Card.{goodCard}
 use Rattle.health.specs.Health.{healthOk}
 use Rattle.health.proofs.Health.{healthy}
@@ -16,14 +18,12 @@ use Rattle.files.proofs.Laws.{table-valid, count-ok}
 use Rattle.files.proofs.Cases.{found-at}
 use Rattle.window.specs.declared.Lookahead.{Lookahead}
 use Rattle.window.specs.Value.{lookaheadFits, validOf}
+use Rattle.window.specs.inner.Facts.{scope}
 use Rattle.alloc.proofs.Tested.{ready}
+use Rattle.grow.specs.Setting.{testedOf}
+use Rattle.grow.specs.inner.Setting.{setting}
 use Rattle.new_list.specs.inner.Put.{Putting}
 use Rattle.store.specs.inner.Calls.{Shrinking, CallAsked}
-use Rattle.layout.specs.Numbers.{filesMax, sizeMax}
-use Rattle.layout.specs.inner.Served.{geometry}
-use Rattle.window.specs.inner.Facts.{scope}
-use Rattle.grow.specs.inner.Setting.{setting}
-use Rattle.grow.specs.Setting.{testedOf}
 
 module _ (B N l len : ℕ) (health : List ℕ) (w : Lookahead) where
   pub no-card : goodCard (geometry B N) len ≡ false → false ≡ testedOf (setting B N l health) w len

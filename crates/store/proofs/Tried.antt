@@ -9,7 +9,11 @@ use borrow.Author.Tests.{ltb-true}
 use lib.Dec.{ltb}
 use lib.ListN.{length, take, length-append, length-take}
 use Rattle.layout.specs.Layout.{offsetAt}
+use Rattle.layout.specs.inner.Served.{BlockSized}
+use Rattle.card.specs.inner.Cards.{CardFacts}
+use Rattle.health.specs.Health.{refusesErase, refusesProgram}
 use Rattle.device.specs.Device.{stored, wiped}
+use Rattle.device.specs.inner.Bounds.{spot}
 use Rattle.device.proofs.Frame.{stored-length, wiped-length}
 use Rattle.trials.specs.Trial.{Trial, Ending, Whole, Fault, ends, more, whole, takenBy}
 use Rattle.trials.specs.Loop.{Block, Flash, Plan, Corrupt, WriteOut, write-out, writeBy, Candidate}
@@ -21,14 +25,10 @@ use Rattle.grow.specs.inner.Grow.{part, linkOf}
 use Rattle.grow.proofs.Pointed.{given}
 use Rattle.grow.proofs.Growths.{offset-le, link-nested, growth-length, growth-first, growth-ends}
 use Rattle.old_list.specs.Write.{Job, Look, Found, Lost, over, new, lead, ahead, width, tail, trialOf, planOf}
+use Rattle.new_block.specs.inner.Fill.{fronted}
 use Rattle.new_list.specs.inner.Write.{filledOf, grownOf, writeOf}
 use Rattle.store.proofs.Parts.{length-ahead, trial-whole, trial-stops, tail-none, tail-lost, tail-found}
 use Rattle.store.proofs.Fronts.{front-nested, tail-nested, front-length, first-offset, first-width}
-use Rattle.layout.specs.inner.Served.{BlockSized}
-use Rattle.card.specs.inner.Cards.{CardFacts}
-use Rattle.device.specs.inner.Bounds.{spot}
-use Rattle.new_block.specs.inner.Fill.{fronted}
-use Rattle.health.specs.Health.{refusesErase, refusesProgram}
 
 module _ {W : Type 0} (look : List ℕ → ℕ → Look) (tries : W → ℕ) (c : Flash W) (j : Job) (fits : new j < 2 ^ 32) where
   -- the nested write, and the loop

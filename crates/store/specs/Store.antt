@@ -18,11 +18,11 @@ use Rattle.window.specs.Value.{checkpointOf}
 use Rattle.trials.specs.Loop.{Writing, Written, NoRoom, Corrupt, WriteOut, write-out, writeBy}
 use Rattle.grow.specs.Setting.{Setting, State, tested}
 use Rattle.grow.specs.Extend.{flash}
+use Rattle.old_list.specs.Write.{zeros, Job, jobOf, kept, Look, lookOf, planOf, wanted, looked, firstHead}
 use Rattle.store.specs.declared.Outcome.{Outcome}
 use Rattle.store.specs.declared.Outcome.the-variants as outcome
 use Rattle.store.specs.declared.Stored.{Stored}
 use Rattle.store.specs.Asked.{WriteAsked, TruncateAsked}
-use Rattle.old_list.specs.Write.{zeros, Job, jobOf, kept, Look, lookOf, planOf, wanted, looked, firstHead}
 
 -- lookups in a list, on the image as it stands
 abbrev pub lookOn : Setting → BlockList → List ℕ → ℕ → Look

@@ -9,12 +9,12 @@ use window::Lookahead;
 ghost use mathlib.Core.Path.{_≡_};
 ghost use Prim.Native.Nat.{_<_};
 ghost use lib.ListN.{length};
-ghost use Rattle.store.specs.inner.Calls.{Shrinking, finishOf};
 ghost use Rattle.layout.specs.Numbers.{filesMax};
-ghost use Rattle.store.specs.Store.{storedOf};
-ghost use Rattle.store.specs.inner.Store.{stays, shrinks};
-ghost use Rattle.grow.specs.inner.Setting.{setting};
 ghost use Rattle.grow.specs.Setting.{testedOf};
+ghost use Rattle.grow.specs.inner.Setting.{setting};
+ghost use Rattle.store.specs.Store.{storedOf};
+ghost use Rattle.store.specs.inner.Calls.{Shrinking, finishOf};
+ghost use Rattle.store.specs.inner.Store.{stays, shrinks};
 
 // Whether geometry, slices, health bytes, L and window are not refused.
 pub fn valid_store(g: Geometry, l: u32, len: usize, health: &[u8], w: Lookahead) -> bool

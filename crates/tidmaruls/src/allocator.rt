@@ -5,8 +5,8 @@ use told_windows::TidAlloc;
 use told_windows::TidWindow;
 use window::Lookahead;
 ghost use mathlib.Core.Path.{_≡_};
-ghost use Rattle.window.specs.Value.{freshReply, checkpointReply, droppedReply};
 ghost use Rattle.card.specs.Card.{cardOf};
+ghost use Rattle.window.specs.Value.{freshReply, checkpointReply, droppedReply};
 ghost use Rattle.alloc.specs.Allocate.{allocateOf};
 ghost use Rattle.told_windows.specs.Windows.{repliedTold, allocatedTold};
 

@@ -2,8 +2,8 @@
 use layout::Geometry;
 use told_lists::TidCheck;
 ghost use mathlib.Core.Path.{_≡_};
-ghost use Rattle.audit.specs.Check.{checkOf};
 ghost use Rattle.card.specs.Card.{cardOf};
+ghost use Rattle.audit.specs.Check.{checkOf};
 ghost use Rattle.told_lists.specs.Lists.{checkedTold};
 
 // Whether the list (head, size) is sound, or its first fault.

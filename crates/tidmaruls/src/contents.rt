@@ -4,8 +4,8 @@ use layout::Geometry;
 use told_files::TidRead;
 use told_files::TidStretch;
 ghost use mathlib.Core.Path.{_≡_};
-ghost use Rattle.reading.specs.Calls.{readOf, stretchOf};
 ghost use Rattle.card.specs.Card.{cardOf};
+ghost use Rattle.reading.specs.Calls.{readOf, stretchOf};
 ghost use Rattle.told_files.specs.Contents.{readTold, placedTold};
 
 // Bytes of a file from a position on, to the front of the buffer.

@@ -21,8 +21,12 @@ pub extern "C" fn tid_extend(
     size: u32,
 ) -> TidExtend
     ensures { λ r. ⌜
-        (r ≡ extendTold (extendOf (settingOf g lookahead (now (health .entry))) (record { window = w; table = t; image = now (image .entry) }) (record { head = head; size = size })))
-        × (now (image .exit) ≡ extendOf (settingOf g lookahead (now (health .entry))) (record { window = w; table = t; image = now (image .entry) }) (record { head = head; size = size }) .image)
+        (r ≡ extendTold (extendOf (settingOf g lookahead (now (health .entry)))
+        (record { window = w; table = t; image = now (image .entry) })
+        (record { head = head; size = size })))
+        × (now (image .exit) ≡ extendOf (settingOf g lookahead (now (health .entry)))
+        (record { window = w; table = t; image = now (image .entry) })
+        (record { head = head; size = size }) .image)
         ⌝ }
 {
     told_windows::grew_told(grow::ctz_extend(g, lookahead, image, health, t, w, head, size))

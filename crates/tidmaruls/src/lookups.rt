@@ -3,10 +3,10 @@ use layout::Geometry;
 use told_lists::TidFind;
 use told_lists::TidIndex;
 ghost use mathlib.Core.Path.{_≡_};
-ghost use Rattle.ctz.specs.Lookup.{lookupOf};
-ghost use Rattle.card.specs.Card.{cardOf};
-ghost use Rattle.told_lists.specs.Lists.{placeTold, foundTold};
 ghost use Rattle.layout.specs.Layout.{placeOf};
+ghost use Rattle.card.specs.Card.{cardOf};
+ghost use Rattle.ctz.specs.Lookup.{lookupOf};
+ghost use Rattle.told_lists.specs.Lists.{placeTold, foundTold};
 
 // Index and offset of a position in a list with blocks of `block_size` bytes.
 #[no_mangle]

@@ -4,8 +4,8 @@ use told_lists::TidPlace;
 use told_lists::TidStep;
 use told_lists::TidVisit;
 ghost use mathlib.Core.Path.{_≡_};
-ghost use Rattle.ctz.specs.Visits.{beginOf, traverseOf};
 ghost use Rattle.card.specs.Card.{cardOf};
+ghost use Rattle.ctz.specs.Visits.{beginOf, traverseOf};
 ghost use Rattle.told_lists.specs.Lists.{placeAsked, begunTold, stepTold};
 
 // The visit of the list (head, size), at its last index.

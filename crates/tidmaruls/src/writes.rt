@@ -4,8 +4,8 @@ use layout::Geometry;
 use told_files::TidStore;
 use window::Lookahead;
 ghost use mathlib.Core.Path.{_≡_};
-ghost use Rattle.store.specs.Store.{storedOf, storeWrite, storeTruncate};
 ghost use Rattle.grow.specs.Setting.{settingOf};
+ghost use Rattle.store.specs.Store.{storedOf, storeWrite, storeTruncate};
 ghost use Rattle.told_files.specs.Contents.{storedTold};
 
 // Bytes written at a position of a file.
@@ -22,8 +22,12 @@ pub extern "C" fn tid_write(
     data: &[u8],
 ) -> TidStore
     ensures { λ r. ⌜
-        (r ≡ storedTold (storedOf (storeWrite (settingOf g lookahead (now (health .entry))) (record { window = w; table = t; image = now (image .entry) }) (record { number = number; position = pos; bytes = now («data» .entry) }))))
-        × (now (image .exit) ≡ storeWrite (settingOf g lookahead (now (health .entry))) (record { window = w; table = t; image = now (image .entry) }) (record { number = number; position = pos; bytes = now («data» .entry) }) .state .image)
+        (r ≡ storedTold (storedOf (storeWrite (settingOf g lookahead (now (health .entry)))
+        (record { window = w; table = t; image = now (image .entry) })
+        (record { number = number; position = pos; bytes = now («data» .entry) }))))
+        × (now (image .exit) ≡ storeWrite (settingOf g lookahead (now (health .entry)))
+        (record { window = w; table = t; image = now (image .entry) })
+        (record { number = number; position = pos; bytes = now («data» .entry) }) .state .image)
         ⌝ }
 {
     told_files::stored_told(store::write(g, lookahead, image, health, w, t, number, pos, data))
@@ -42,8 +46,12 @@ pub extern "C" fn tid_truncate(
     size: u32,
 ) -> TidStore
     ensures { λ r. ⌜
-        (r ≡ storedTold (storedOf (storeTruncate (settingOf g lookahead (now (health .entry))) (record { window = w; table = t; image = now (image .entry) }) (record { number = number; size = size }))))
-        × (now (image .exit) ≡ storeTruncate (settingOf g lookahead (now (health .entry))) (record { window = w; table = t; image = now (image .entry) }) (record { number = number; size = size }) .state .image)
+        (r ≡ storedTold (storedOf (storeTruncate (settingOf g lookahead (now (health .entry)))
+        (record { window = w; table = t; image = now (image .entry) })
+        (record { number = number; size = size }))))
+        × (now (image .exit) ≡ storeTruncate (settingOf g lookahead (now (health .entry)))
+        (record { window = w; table = t; image = now (image .entry) })
+        (record { number = number; size = size }) .state .image)
         ⌝ }
 {
     told_files::stored_told(store::truncate(g, lookahead, image, health, w, t, number, size))

@@ -1,9 +1,9 @@
 -- The answers of the calls on a file as they are exported: 01's number, then the values.
-use Rattle.reading.specs.Calls.{readCode, readLength, placedCode, placedPlace, placedLength}
 use Rattle.reading.specs.declared.Reading.{Reading}
 use Rattle.reading.specs.declared.Placed.{Placed}
-use Rattle.store.specs.Store.{outcomeCode}
+use Rattle.reading.specs.Calls.{readCode, readLength, placedCode, placedPlace, placedLength}
 use Rattle.store.specs.declared.Stored.{Stored}
+use Rattle.store.specs.Store.{outcomeCode}
 use Rattle.told_files.specs.declared.TidRead.{TidRead}
 use Rattle.told_files.specs.declared.TidStretch.{TidStretch}
 use Rattle.told_files.specs.declared.TidStore.{TidStore}

@@ -1,10 +1,10 @@
--- The answers of the list calls as they are exported: this paper's number and values for each case, and zeros beside a refusal.
+-- The answers of the list calls as they are exported: 01's number and values for each case, and zeros beside a refusal.
 use mathlib.Core.Bool.{Bool, true, false, not}
 use Prim.Native.Nat.{ℕ}
 use lib.Dec.{eqb}
-use Rattle.layout.specs.Numbers.{accepted, invalid, damaged-card}
 use Rattle.layout.specs.declared.Place.{Place}
 use Rattle.layout.specs.declared.Place.the-variants as place
+use Rattle.layout.specs.Numbers.{accepted, invalid, damaged-card}
 use Rattle.ctz.specs.declared.Found.{Found}
 use Rattle.ctz.specs.declared.Found.the-variants as found
 use Rattle.ctz.specs.declared.visit.Visit.{Visit}

@@ -1,12 +1,12 @@
--- The answers of the table calls as they are exported: this paper's number and values for each case.
+-- The answers of the table calls as they are exported: 01's number and values for each case.
 use Rattle.layout.specs.Numbers.{accepted, no-file, invalid, damaged-card}
-use Rattle.files.specs.Change.{changeCode}
 use Rattle.files.specs.declared.Sized.{Sized}
 use Rattle.files.specs.declared.Sized.the-variants as sized
 use Rattle.files.specs.declared.Table.{Table}
 use Rattle.files.specs.declared.change.Changed.{Changed}
 use Rattle.files.specs.declared.position.Sought.{Sought}
 use Rattle.files.specs.declared.position.Sought.the-variants as sought
+use Rattle.files.specs.Change.{changeCode}
 use Rattle.saved.specs.declared.Saved.{Saved}
 use Rattle.saved.specs.declared.Saved.the-variants as saved
 use Rattle.saved.specs.declared.Loaded.{Loaded}

@@ -1,4 +1,4 @@
--- The answers of the window calls and of a growth as they are exported: this paper's number and values for each case.
+-- The answers of the window calls and of a growth as they are exported: 01's number and values for each case.
 use Rattle.layout.specs.Numbers.{accepted, invalid, no-space, damaged-card}
 use Rattle.window.specs.declared.Lookahead.{Lookahead}
 use Rattle.window.specs.declared.setup.Reply.{Reply}
@@ -9,10 +9,10 @@ use Rattle.window.specs.declared.Answer.the-variants as answer
 use Rattle.window.specs.declared.Allocated.{Allocated}
 use Rattle.grow.specs.declared.Growth.{Growth}
 use Rattle.grow.specs.declared.Growth.the-variants as growth
+use Rattle.grow.specs.Extend.{GrowOut}
 use Rattle.told_windows.specs.declared.TidWindow.{TidWindow}
 use Rattle.told_windows.specs.declared.TidAlloc.{TidAlloc}
 use Rattle.told_windows.specs.declared.TidExtend.{TidExtend}
-use Rattle.grow.specs.Extend.{GrowOut}
 
 -- on a refusal the window is as it came, or that of zeros where none came
 abbrev pub replyTold : Reply → Lookahead → TidWindow

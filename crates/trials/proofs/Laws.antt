@@ -6,13 +6,13 @@ use Prim.Native.Nat.{ℕ, suc, _<_}
 use borrow.Author.Tests.{lt-ltb}
 use lib.Dec.{ltb}
 use lib.ListN.{length}
+use Rattle.health.specs.Health.{refusesErase, refusesProgram}
 use Rattle.device.specs.Device.{stored, wiped}
+use Rattle.device.specs.inner.Bounds.{spot}
 use Rattle.trials.specs.Steps.{Erase, series, programs}
 use Rattle.trials.specs.Trial.{Trial, Ending, Whole, Fault, Refused, ends, takenBy}
 use Rattle.trials.specs.Loop.{Block, None, Bad, Flash, Plan, Standing, Turn, Next, Longer, Again, Ends, write-out, Written, NoRoom, Corrupt, followed, tried, turnOf, writeBy, Candidate}
 use Rattle.trials.proofs.Series.{series-tried}
-use Rattle.device.specs.inner.Bounds.{spot}
-use Rattle.health.specs.Health.{refusesErase, refusesProgram}
 
 abbrev pub at : {W : Type 0} → ℕ → ℕ → List ℕ → W → Standing W
 at h s img w = record { head = h; size = s; image = img; rest = w }

@@ -4,9 +4,9 @@ use mathlib.Core.List.{List, [], _∷_}
 use Prim.Native.Nat.{ℕ, suc}
 use native.Mathlib.Numerals.{add-one}
 use Rattle.device.specs.Device.{stored, wiped}
+use Rattle.device.specs.inner.Bounds.{spot}
 use Rattle.device.proofs.Frame.{stored-append}
 use Rattle.trials.specs.Steps.{Erase, done, series, programs}
-use Rattle.device.specs.inner.Bounds.{spot}
 
 pub series-programs : (B k o : ℕ) (vs img : List ℕ) → series B (programs k o vs) img ≡ stored B img (spot k o) vs
 unfolding series programs done stored

@@ -3,10 +3,10 @@ use mathlib.Core.Bool.{true, false}
 use mathlib.Core.List.{List, [], _∷_}
 use Prim.Native.Nat.{ℕ, zero, suc}
 use lib.Dec.{ltb}
+use Rattle.health.specs.Health.{refusesErase, refusesProgram}
 use Rattle.device.specs.Device.{wiped}
 use Rattle.trials.specs.Steps.{Erase, series, programs, DeviceStep}
 use Rattle.trials.specs.Trial.{Trial, Whole, Fault, Refused, takenBy}
-use Rattle.health.specs.Health.{refusesErase, refusesProgram}
 
 -- what an allocator answers, whatever its state W is: a block and what is left; -28; -84
 pub data Took (W : Type 0) : Type 0 where

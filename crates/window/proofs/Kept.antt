@@ -10,9 +10,9 @@ use Rattle.window.specs.declared.Got.the-variants.{Empty}
 use Rattle.window.specs.Value.{freshOf, checkpointOf, droppedOf, withMap}
 use Rattle.window.specs.Allocate.{freeFrom, moved, takeCase, takeOf}
 use Rattle.window.specs.Scan.{Seen, cleared, markOn, scanCase, scanOf}
+use Rattle.window.specs.inner.Facts.{ValidWindow, scope}
 use Rattle.window.proofs.Cases.{ltb-cases}
 use Rattle.window.proofs.Search.{free-stops}
-use Rattle.window.specs.inner.Facts.{ValidWindow, scope}
 
 pub fresh-valid : (n l s : ℕ) → s < n → ValidWindow (freshOf (scope n l) s) n l
 fresh-valid n l s h =

@@ -5,11 +5,11 @@ use mathlib.Core.List.{List}
 use Prim.Native.Nat.{ℕ, zero, suc, _+_, _-_, _≤_, _<_}
 use native.Mathlib.Numerals.{add-one}
 use native.Mathlib.Omega.{arith}
+use Rattle.span.specs.Members.{bitIn}
 use Rattle.window.specs.declared.Lookahead.{Lookahead}
 use Rattle.window.specs.Allocate.{skip, freeFrom}
-use Rattle.window.proofs.Cases.{eqb-cases}
 use Rattle.window.specs.inner.Facts.{Searchable}
-use Rattle.span.specs.Members.{bitIn}
+use Rattle.window.proofs.Cases.{eqb-cases}
 
 module _ (m : List ℕ) where
   -- one offset of a search: a marked one is passed, and at an unmarked one it stops

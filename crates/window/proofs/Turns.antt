@@ -11,9 +11,9 @@ use Rattle.window.specs.declared.Scanned.{Scanned}
 use Rattle.window.specs.declared.Answer.the-variants.{Block, NoSpace, Damaged}
 use Rattle.window.specs.Allocate.{takeOf, allocBy}
 use Rattle.window.specs.Scan.{Seen, cleared, markOn, scanCase, scanOf}
+use Rattle.window.specs.inner.Facts.{ValidWindow, GoodScope, scope}
 use Rattle.window.proofs.Cases.{no-both}
 use Rattle.window.proofs.Kept.{take-valid, take-empty, scan-valid}
-use Rattle.window.specs.inner.Facts.{ValidWindow, GoodScope, scope}
 
 -- falls from each search that found nothing to the next
 abbrev pub left : Lookahead → ℕ

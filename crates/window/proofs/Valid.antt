@@ -4,17 +4,17 @@ use mathlib.Core.Bool.{true, false, _&&_, and-eq-true-iff}
 use Prim.Native.Nat.{ℕ, _-_, _*_, _≤_, _<_, min}
 use native.Mathlib.Nat.{min-le-left, min-le-right, le-trans, le-min}
 use native.Mathlib.Omega.{arith}
-use lib.Dec.{leb}
 use borrow.Author.Tests.{ltb-true, leb-true, lt-ltb, le-ltb, le-leb, lt-leb}
-use Rattle.layout.specs.Geometry.{sizeFits, countFits, cardFits}
+use lib.Dec.{leb}
 use Rattle.layout.specs.declared.Geometry.{Geometry}
 use Rattle.layout.specs.declared.Made.the-variants as made
+use Rattle.layout.specs.Geometry.{sizeFits, countFits, cardFits}
+use Rattle.layout.specs.inner.Served.{geometry}
+use Rattle.layout.specs.inner.Made.{madeOf}
 use Rattle.layout.proofs.Makes.{made-fits, refused-fits}
 use Rattle.window.specs.declared.Lookahead.{Lookahead}
 use Rattle.window.specs.Value.{lookaheadFits, validOf, sizesFit}
 use Rattle.window.specs.inner.Facts.{ValidWindow, GoodScope, Searchable, scope}
-use Rattle.layout.specs.inner.Served.{geometry}
-use Rattle.layout.specs.inner.Made.{madeOf}
 
 module _ (w : Lookahead) (n l : ℕ) where
   -- the tests one by one: the first that fails, and the last where none before it does

@@ -4,6 +4,7 @@ use mathlib.Core.Bool.{Bool, true, false}
 use Prim.Native.Nat.{ℕ, zero, suc, _+_, _-_, _*_, _%_, _≤_, _<_, min}
 use native.Mathlib.Nat.{mod-add-mod, add-mod-right}
 use native.Mathlib.Omega.{arith}
+use Rattle.span.specs.Members.{has, bitIn}
 use Rattle.window.specs.declared.Allocated.{Allocated}
 use Rattle.window.specs.declared.Answer.{Answer}
 use Rattle.window.specs.declared.Answer.the-variants.{NoSpace}
@@ -12,6 +13,7 @@ use Rattle.window.specs.declared.Got.{Got}
 use Rattle.window.specs.declared.Lookahead.{Lookahead}
 use Rattle.window.specs.Allocate.{allocBy, allocOf, onGot, onScan, usedUp, freeFrom, moved, takeCase, takeOf}
 use Rattle.window.specs.Scan.{Seen, cleared, markOn, scanCase, scanOf}
+use Rattle.window.specs.inner.Facts.{ValidWindow, GoodScope, scope}
 use Rattle.window.proofs.Cases.{eqb-cases, ltb-cases, no-both}
 use Rattle.window.proofs.Kept.{cleared-valid, dropped-valid, map-valid, moved-valid}
 use Rattle.window.proofs.Search.{free-stops}
@@ -19,8 +21,6 @@ use Rattle.window.proofs.Turns.{left, less}
 use Rattle.windows.proofs.Views.{Claim, Handed, On, Result, Says, View, bad, full, handed, isBlock, PassedMarked, Below}
 use Rattle.windows.proofs.Circle.{shift}
 use Rattle.windows.proofs.Scan.{scan-exact}
-use Rattle.span.specs.Members.{has, bitIn}
-use Rattle.window.specs.inner.Facts.{ValidWindow, GoodScope, scope}
 
 -- the place of an offset
 pub on-place : (base n : ℕ) (w : Lookahead) → On base n w → (o : ℕ) → w .next ≤ o → (w .start + o) % n ≡ (base + (n - w .ckpoint + (o - w .next))) % n

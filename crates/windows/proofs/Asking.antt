@@ -1,17 +1,17 @@
 -- What is left to hand out: the blocks that are not used, in circular order, how many of them are good, and what asking for them gives.
-use Prim.Native.Nat.{ℕ, zero, suc, _+_, _-_, _%_, _≤_, _<_}
 use mathlib.Core.Path.{_≡_}
 use mathlib.Core.Bool.{Bool, true, false}
 use mathlib.Core.List.{List, [], _∷_}
+use Prim.Native.Nat.{ℕ, zero, suc, _+_, _-_, _%_, _≤_, _<_}
+use Rattle.span.specs.Members.{has}
 use Rattle.window.specs.declared.Answer.the-variants as answer
 use Rattle.window.specs.declared.Answer.{Answer}
 use Rattle.window.specs.declared.Lookahead.{Lookahead}
 use Rattle.window.specs.Allocate.{allocOf}
 use Rattle.window.specs.Scan.{Seen}
+use Rattle.window.specs.inner.Facts.{ValidWindow, scope}
 use Rattle.windows.specs.Space.{goodUnused}
 use Rattle.windows.proofs.Views.{Lists, On, Says, exactly}
-use Rattle.span.specs.Members.{has}
-use Rattle.window.specs.inner.Facts.{ValidWindow, scope}
 
 -- how many good blocks are not listed
 abbrev pub goodUnlisted : (ℕ → Bool) → ℕ → List ℕ → ℕ

@@ -4,15 +4,15 @@ use mathlib.Core.Bool.{true}
 use mathlib.Core.List.{List, []}
 use Prim.Native.Nat.{ℕ, _≤_}
 use native.Mathlib.Omega.{arith}
+use Rattle.span.specs.Members.{has}
 use Rattle.window.specs.declared.Lookahead.{Lookahead}
 use Rattle.window.specs.Scan.{Seen, scanOf}
 use Rattle.window.specs.Value.{checkpointOf, freshOf}
+use Rattle.window.specs.inner.Facts.{ValidWindow, GoodScope, scope}
 use Rattle.window.proofs.Kept.{fresh-valid}
 use Rattle.windows.proofs.Views.{Became, During, Tells, fewer, fresh, stopped, wrote, WindowCame, Allocations, CleanWindow}
 use Rattle.windows.proofs.InCall.{clean-after, running, still-clean, still-valid}
 use Rattle.windows.proofs.Scan.{scan-exact}
-use Rattle.span.specs.Members.{has}
-use Rattle.window.specs.inner.Facts.{ValidWindow, GoodScope, scope}
 
 -- a fresh window is clean for any list, and so is each that has nothing left
 pub empty-clean : (n : ℕ) (listed : List ℕ) (w : Lookahead) → w .size ≤ w .next → CleanWindow n listed w

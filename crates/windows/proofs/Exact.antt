@@ -4,19 +4,19 @@ use mathlib.Core.Bool.{Bool, true, false}
 use mathlib.Core.List.{List, [], _∷_}
 use Prim.Native.Nat.{ℕ, zero, suc, _+_, _-_, _%_, _≤_, _<_}
 use native.Mathlib.Omega.{arith}
-use lib.Dec.{leb}
 use borrow.Author.Tests.{le-leb, lt-leb, leb-true, leb-false}
+use lib.Dec.{leb}
 use Rattle.window.specs.declared.Answer.the-variants as answer
 use Rattle.window.specs.declared.Answer.{Answer}
 use Rattle.window.specs.declared.Lookahead.{Lookahead}
 use Rattle.window.specs.Allocate.{allocOf}
 use Rattle.window.specs.Scan.{Seen}
+use Rattle.window.specs.inner.Facts.{GoodScope, scope}
 use Rattle.window.proofs.Cases.{no-both}
 use Rattle.windows.proofs.Views.{Handed, Lists, On, Shows, View, bad, exactly, full, handed, isBlock, PassedMarked}
 use Rattle.windows.proofs.Asking.{Knows, askOf, bit, enough, goodIn, last, more, onAnswer, unusedFrom, SpentWindow, unlessUsed}
 use Rattle.windows.proofs.Alloc.{alloc-from}
 use Rattle.windows.proofs.Answers.{block-eq, not-block, not-full}
-use Rattle.window.specs.inner.Facts.{GoodScope, scope}
 
 module _ (base n : ℕ) (used : ℕ → Bool) where
   -- one place of the circle

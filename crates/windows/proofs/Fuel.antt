@@ -8,12 +8,12 @@ use Rattle.window.specs.declared.Got.{Got}
 use Rattle.window.specs.declared.Lookahead.{Lookahead}
 use Rattle.window.specs.Allocate.{allocBy, allocOf, onGot, onScan, usedUp, takeOf}
 use Rattle.window.specs.Scan.{Seen, cleared, markOn, scanCase, scanOf}
+use Rattle.window.specs.inner.Facts.{ValidWindow, GoodScope, scope}
 use Rattle.window.proofs.Cases.{eqb-cases}
 use Rattle.window.proofs.Kept.{cleared-valid, map-valid}
 use Rattle.window.proofs.Turns.{left, less}
 use Rattle.windows.proofs.Views.{Claim}
 use Rattle.windows.proofs.Alloc.{Search, found, used, sought, some-on, SoughtBlock}
-use Rattle.window.specs.inner.Facts.{ValidWindow, GoodScope, scope}
 
 over : (c s : ℕ) → c + (1 - s) ≤ c + 2
 over c s = omega arith

@@ -3,10 +3,10 @@ use mathlib.Core.Path.{_≡_, refl, ap, _∙_, sym}
 use mathlib.Core.Bool.{Bool, true, false, _||_, or-assoc}
 use mathlib.Core.List.{List, [], _∷_, _++_}
 use Prim.Native.Nat.{ℕ, _<_}
-use lib.Dec.{eqb}
 use borrow.Author.Tests.{eqb-true, eq-eqb}
-use Rattle.window.proofs.Cases.{no-both}
+use lib.Dec.{eqb}
 use Rattle.span.specs.Members.{has}
+use Rattle.window.proofs.Cases.{no-both}
 use Rattle.windows.proofs.Views.{Below}
 
 pub or-right : (a b : Bool) → b ≡ true → (a || b) ≡ true

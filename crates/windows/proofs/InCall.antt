@@ -5,20 +5,20 @@ use mathlib.Core.List.{List, [], _∷_}
 use Prim.Native.Nat.{ℕ, _+_, _-_, _%_, _≤_, _<_}
 use native.Mathlib.Nat.{mod-lt, mod-add-mod}
 use native.Mathlib.Omega.{arith}
+use Rattle.span.specs.Members.{has}
 use Rattle.window.specs.declared.Answer.the-variants as answer
 use Rattle.window.specs.declared.Answer.{Answer}
 use Rattle.window.specs.declared.Lookahead.{Lookahead}
 use Rattle.window.specs.Allocate.{allocOf}
 use Rattle.window.specs.Scan.{Seen}
 use Rattle.window.specs.Value.{checkpointOf}
+use Rattle.window.specs.inner.Facts.{ValidWindow, GoodScope, scope}
 use Rattle.window.proofs.Cases.{no-both}
 use Rattle.windows.proofs.Views.{Became, Different, During, New, Places, Result, Tells, View, bad, cleanly, full, handed, isBlock, more, start, Allocations, CleanWindow, Below}
 use Rattle.windows.proofs.Alloc.{alloc-view, on-place}
 use Rattle.windows.proofs.Answers.{block-eq, not-block, not-damaged}
 use Rattle.windows.proofs.Circle.{same-place}
 use Rattle.windows.proofs.Has.{else-false, has-cases, has-head, has-none}
-use Rattle.span.specs.Members.{has}
-use Rattle.window.specs.inner.Facts.{ValidWindow, GoodScope, scope}
 
 -- where a block that was handed out lies
 pub place-of : {base n d : ℕ} {out : List ℕ} → Places base n d out → (b : ℕ) → has out b ≡ true → (k : ℕ) × (k < d) × (b ≡ (base + k) % n)

@@ -4,11 +4,11 @@ use mathlib.Core.Bool.{Bool, true, false, _&&_, _||_, or-assoc}
 use mathlib.Core.List.{List, [], _∷_, _++_}
 use Prim.Native.Nat.{ℕ, zero, suc}
 use lib.ListN.{getD, set}
+use Rattle.span.specs.Members.{has}
 use Rattle.window.specs.Scan.{Seen, ifOk, listedOf, seenAll}
 use Rattle.window.proofs.Cases.{no-both}
 use Rattle.windows.proofs.Views.{Became, Lists, Tells, Below}
 use Rattle.windows.proofs.Has.{below-append, below-none, has-append, not-in-both, not-in-left, not-in-none, not-in-right, or-both-false, or-left-false, or-right-false}
-use Rattle.span.specs.Members.{has}
 
 -- what the visit of no file tells
 abbrev pub unseen : Seen

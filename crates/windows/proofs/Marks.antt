@@ -4,16 +4,16 @@ use mathlib.Core.Bool.{Bool, true}
 use mathlib.Core.List.{List}
 use Prim.Native.Nat.{ℕ, suc, _+_, _-_, _/_, _%_, _^_, _<_, max}
 use native.Mathlib.Nat.{div-self, div-eq-of-lt, mul-mod-left, mod-lt, pow-suc}
-use borrow.Author.Tests.{eq-eqb}
 use native.Mathlib.Omega.{arith}
+use borrow.Author.Tests.{eq-eqb}
 use lib.Arith.{digits-mod}
 use lib.Bits.{bitOr, or-shr, or-step}
 use lib.Dec.{eqb, lit<}
 use lib.ListN.{getD, length}
 use lib.Pow.{pow-pos, pow-lt, pow-add, shl-shr}
 use lib.Seq.{getD-set-same, getD-set-other}
-use Rattle.window.proofs.Cases.{eqb-cases, ltb-cases}
 use Rattle.span.specs.Members.{bitIn, withBitIn}
+use Rattle.window.proofs.Cases.{eqb-cases, ltb-cases}
 
 or-low : (a b : ℕ) → bitOr a b % 2 ≡ max (a % 2) (b % 2)
 or-low a b = ap (λ (x : ℕ). x % 2) (or-step a b) ∙ digits-mod (bitOr (a / 2) (b / 2)) (omega arith)

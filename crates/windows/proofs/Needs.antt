@@ -4,18 +4,18 @@ use mathlib.Core.Bool.{Bool, false}
 use mathlib.Core.List.{List, [], _∷_}
 use Prim.Native.Nat.{ℕ, suc, _+_}
 use native.Mathlib.Omega.{arith}
-use lib.Dec.{leb}
 use borrow.Author.Tests.{le-leb, lt-leb}
+use lib.Dec.{leb}
 use Rattle.window.specs.declared.Lookahead.{Lookahead}
 use Rattle.window.specs.Value.{checkpointOf}
+use Rattle.window.specs.inner.Facts.{ValidWindow, GoodScope}
+use Rattle.windows.specs.Space.{usedFor, goodUnused}
 use Rattle.windows.proofs.Views.{Became, During, fewer, isBlock, more, start, stopped, wrote, WindowCame, Allocations}
 use Rattle.windows.proofs.Asking.{Needs, bad-one, bit, done, good-one, goodIn, no-space, ExactCall, ontoLast}
 use Rattle.windows.proofs.Exact.{good-cons, good-nil, lists-shows}
 use Rattle.windows.proofs.InCall.{goes-on, stays}
 use Rattle.windows.proofs.Listed.{lists-tells}
 use Rattle.windows.proofs.Space.{exact-begins, exact-full, exact-goes}
-use Rattle.window.specs.inner.Facts.{ValidWindow, GoodScope}
-use Rattle.windows.specs.Space.{usedFor, goodUnused}
 
 -- THEOREM. Blocks are asked for until m good ones came, by steps of any kind: that fails with -28 exactly if fewer than m good blocks are not used.
 needs-from : {n l : ℕ} {listed : List ℕ} {used good : ℕ → Bool} {m : ℕ} {w v : Lookahead} {out : List ℕ} {r : Bool} (before : List ℕ) → GoodScope n l

@@ -5,8 +5,8 @@ use mathlib.Core.List.{List}
 use Prim.Native.Nat.{ℕ, zero, suc, _+_, _-_, _%_, _≤_, _<_}
 use native.Mathlib.Nat.{mod-eq-of-lt, add-mod-left}
 use native.Mathlib.Omega.{arith}
-use Rattle.windows.proofs.Asking.{bit, goodIn, spare, unusedFrom, unlessUsed}
 use Rattle.windows.specs.Space.{tally, goodUnused}
+use Rattle.windows.proofs.Asking.{bit, goodIn, spare, unusedFrom, unlessUsed}
 
 -- how many numbers from a on, k of them, have p
 unfoldable pub tallyFrom : (ℕ → Bool) → ℕ → ℕ → ℕ

@@ -7,16 +7,16 @@ use native.Mathlib.Nat.{zero-div}
 use native.Mathlib.Omega.{arith}
 use lib.ListN.{length, length-set, replicate, getD-replicate}
 use lib.Dec.{ltb, eqb}
+use Rattle.span.specs.Members.{has, bitIn, withBitIn}
 use Rattle.window.specs.declared.Lookahead.{Lookahead}
 use Rattle.window.specs.Scan.{markAll, markMap, cleared, markOn}
+use Rattle.window.specs.inner.Facts.{ValidWindow, GoodScope, windowOn, scope}
 use Rattle.window.proofs.Cases.{eqb-cases, ltb-cases}
 use Rattle.window.proofs.Kept.{cleared-valid}
 use Rattle.window.proofs.Scans.{marks-seen}
 use Rattle.windows.proofs.Circle.{block-offset, offset-block, offsetFrom}
 use Rattle.windows.proofs.Has.{below-head, below-tail}
 use Rattle.windows.proofs.Marks.{mark-other, mark-same}
-use Rattle.span.specs.Members.{has, bitIn, withBitIn}
-use Rattle.window.specs.inner.Facts.{ValidWindow, GoodScope, windowOn, scope}
 use Rattle.windows.proofs.Views.{Below}
 
 abbrev markIf : Bool → List ℕ → ℕ → List ℕ

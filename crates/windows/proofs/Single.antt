@@ -4,16 +4,16 @@ use mathlib.Core.Bool.{false}
 use mathlib.Core.List.{List}
 use Prim.Native.Nat.{ℕ, _+_, _<_}
 use native.Mathlib.Nat.{mod-lt}
+use Rattle.span.specs.Members.{has}
 use Rattle.window.specs.declared.Answer.{Answer}
 use Rattle.window.specs.declared.Answer.the-variants as answer
 use Rattle.window.specs.declared.Lookahead.{Lookahead}
 use Rattle.window.specs.Allocate.{allocOf}
 use Rattle.window.specs.Scan.{Seen}
+use Rattle.window.specs.inner.Facts.{ValidWindow, GoodScope, scope}
 use Rattle.windows.proofs.Views.{cleanly, View, handed, full, bad, Tells, CleanWindow}
 use Rattle.windows.proofs.Alloc.{some-on, alloc-view}
 use Rattle.windows.proofs.Answers.{block-eq, not-block, not-damaged}
-use Rattle.span.specs.Members.{has}
-use Rattle.window.specs.inner.Facts.{ValidWindow, GoodScope, scope}
 
 module _ {n l : ℕ} {listed : List ℕ} {seen : Seen} {w : Lookahead} (z : GoodScope n l) (g : ValidWindow w n l) (c : CleanWindow n listed w) (t : Tells n listed seen) where
   -- THEOREM. The block handed out is one of the card, and no file has it.

@@ -5,16 +5,19 @@ use mathlib.Core.List.{List, [], _∷_}
 use Prim.Native.Nat.{ℕ, suc, _+_, _-_, _%_, _≤_, _<_}
 use native.Mathlib.Nat.{mod-lt, mod-add-mod, add-mod-right}
 use native.Mathlib.Omega.{arith}
-use lib.Dec.{leb, ltb}
 use borrow.Author.Tests.{le-leb, lt-leb, leb-true, lt-ltb, le-ltb, ltb-true}
+use lib.Dec.{leb, ltb}
+use Rattle.span.specs.Members.{has, bitIn}
 use Rattle.window.specs.declared.Answer.the-variants as answer
 use Rattle.window.specs.declared.Answer.{Answer}
 use Rattle.window.specs.declared.Lookahead.{Lookahead}
 use Rattle.window.specs.Allocate.{allocOf}
 use Rattle.window.specs.Scan.{Seen, offsetIn}
 use Rattle.window.specs.Value.{checkpointOf, freshOf}
+use Rattle.window.specs.inner.Facts.{ValidWindow, GoodScope, scope}
 use Rattle.window.proofs.Cases.{ltb-cases, no-both}
 use Rattle.window.proofs.Kept.{checkpoint-valid, fresh-valid}
+use Rattle.windows.specs.Space.{leftIn, usedFor, markedIn, goodUnused}
 use Rattle.windows.proofs.Views.{Lists, On, Shows, View, bad, exactly, full, handed, isBlock, CleanWindow}
 use Rattle.windows.proofs.Asking.{Knows, askOf, bit, goodIn, spare, unusedFrom, ExactCall, SpentWindow, goodUnlisted}
 use Rattle.windows.proofs.Answers.{block-eq, not-block, not-damaged, not-full}
@@ -22,9 +25,6 @@ use Rattle.windows.proofs.Circle.{block-offset, offset-block}
 use Rattle.windows.proofs.Exact.{view, asked, full-none, good-cons, good-nil, handed-first, spent}
 use Rattle.windows.proofs.Has.{or-right}
 use Rattle.windows.proofs.Rotate.{tally-same, whole-circle}
-use Rattle.span.specs.Members.{has, bitIn}
-use Rattle.window.specs.inner.Facts.{ValidWindow, GoodScope, scope}
-use Rattle.windows.specs.Space.{leftIn, usedFor, markedIn, goodUnused}
 
 -- ---- what is used, from a window
 

@@ -4,6 +4,7 @@ use mathlib.Core.Bool.{true, false}
 use mathlib.Core.List.{List, [], _∷_}
 use Prim.Native.Nat.{ℕ, zero, suc}
 use lib.ListN.{replicate}
+use Rattle.span.specs.Members.{has}
 use Rattle.window.specs.declared.Allocated.{Allocated}
 use Rattle.window.specs.declared.Answer.{Answer}
 use Rattle.window.specs.declared.Answer.the-variants as answer
@@ -11,10 +12,9 @@ use Rattle.window.specs.declared.Lookahead.{Lookahead}
 use Rattle.window.specs.Allocate.{allocBy, allocOf, skip, takeOf}
 use Rattle.window.specs.Scan.{markAll, markMap, Seen, cleared, scanOf}
 use Rattle.window.specs.Value.{freshOf}
-use Rattle.windows.proofs.Asking.{askOf, unusedFrom, goodUnlisted}
-use Rattle.span.specs.Members.{has}
 use Rattle.window.specs.inner.Facts.{scope}
 use Rattle.windows.specs.Space.{tally}
+use Rattle.windows.proofs.Asking.{askOf, unusedFrom, goodUnlisted}
 
 abbrev some : Seen
 some = record { blocks = 0 ∷ 1 ∷ 4 ∷ []; ok = true }

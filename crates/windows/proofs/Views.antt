@@ -1,8 +1,9 @@
 -- Views of an allocation and of the allocations of one call, for theorems. The circle: the k-th block from base on is (base + k) % n.
-use Prim.Native.Nat.{ℕ, suc, _+_, _-_, _%_, _<_, _≤_}
 use mathlib.Core.Path.{_≡_}
 use mathlib.Core.Bool.{Bool, true, false}
 use mathlib.Core.List.{List, [], _∷_}
+use Prim.Native.Nat.{ℕ, suc, _+_, _-_, _%_, _<_, _≤_}
+use Rattle.span.specs.Members.{has, bitIn}
 use Rattle.window.specs.declared.Allocated.{Allocated}
 use Rattle.window.specs.declared.Answer.the-variants as answer
 use Rattle.window.specs.declared.Answer.{Answer}
@@ -10,7 +11,6 @@ use Rattle.window.specs.declared.Lookahead.{Lookahead}
 use Rattle.window.specs.Allocate.{allocOf}
 use Rattle.window.specs.Scan.{Seen}
 use Rattle.window.specs.Value.{checkpointOf, freshOf}
-use Rattle.span.specs.Members.{has, bitIn}
 use Rattle.window.specs.inner.Facts.{ValidWindow, scope}
 
 -- every number of a list is a block's: each visit tests a number against N just before it hands it over

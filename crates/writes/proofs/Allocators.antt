@@ -5,10 +5,10 @@ use mathlib.Core.Logic.{_≢_, _⊎_}
 use mathlib.Core.List.{List, [], _∷_}
 use Prim.Native.Nat.{ℕ, suc, _<_}
 use lib.ListN.{length}
-use Rattle.writes.proofs.Cells.{cell}
-use Rattle.trials.specs.Loop.{Took, Block, None, Bad}
 use Rattle.card.specs.inner.Cards.{CardFacts}
 use Rattle.health.specs.Health.{refusesErase, refusesProgram}
+use Rattle.trials.specs.Loop.{Took, Block, None, Bad}
+use Rattle.writes.proofs.Cells.{cell}
 
 -- block k is among those of a list: `has` of that list is true (demands: `in-has`), said with its place
 abbrev pub In : ℕ → List ℕ → Type 0

@@ -10,15 +10,15 @@ use lib.Seq.{getD-take, getD-drop}
 use Rattle.span.specs.Words.{wordAt, bytes32}
 use Rattle.span.proofs.Runs.{getD-sets-in, getD-sets-out}
 use Rattle.span.proofs.Words.{word-same, word-part, word-of-bytes32}
+use Rattle.layout.specs.Layout.{indexAt, offsetAt}
+use Rattle.card.specs.Card.{pointer}
+use Rattle.card.specs.inner.Cards.{CardFacts}
 use Rattle.card.proofs.Cards.{block-inside}
 use Rattle.device.specs.Device.{stored}
+use Rattle.device.specs.inner.Bounds.{spot}
 use Rattle.device.proofs.Bounds.{blocks-apart}
 use Rattle.device.proofs.Frame.{stored-length}
-use Rattle.layout.specs.Layout.{indexAt, offsetAt}
 use Rattle.grow.specs.inner.Grow.{part}
-use Rattle.card.specs.inner.Cards.{CardFacts}
-use Rattle.card.specs.Card.{pointer}
-use Rattle.device.specs.inner.Bounds.{spot}
 
 -- byte o of block k: block k starts at byte k times B
 unfoldable pub cell : ℕ → List ℕ → ℕ → ℕ → ℕ

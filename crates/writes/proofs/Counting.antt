@@ -9,18 +9,18 @@ use borrow.Author.Tests.{ltb-true, ltb-false, lt-ltb, le-ltb}
 use lib.Dec.{ltb}
 use lib.ListN.{length}
 use Rattle.layout.specs.Layout.{indexAt, offsetAt}
+use Rattle.card.specs.inner.Cards.{CardFacts}
+use Rattle.health.specs.Health.{refusesProgram}
+use Rattle.trials.specs.Loop.{Took, Written, NoRoom, Corrupt, WriteOut}
+use Rattle.grow.specs.Extend.{GrowOut}
+use Rattle.grow.specs.inner.Grow.{part, growOf}
 use Rattle.old_list.specs.Write.{Job, new, kept, over, looked, wanted, firstHead, Look, Found, Lost}
+use Rattle.new_block.specs.inner.Fill.{fronted, tailed}
+use Rattle.new_list.specs.inner.Write.{filledOf, grownOf, writeOf, putOf}
 use Rattle.writes.proofs.Fills.{front-card, front-others}
 use Rattle.writes.proofs.Widths.{share, room, needs, need}
 use Rattle.writes.proofs.Counts.{Only, part-short, store-only, both, Grew, hurt, none, gets, grew}
 use Rattle.writes.proofs.Allocators.{Counter}
-use Rattle.trials.specs.Loop.{Took, Written, NoRoom, Corrupt, WriteOut}
-use Rattle.grow.specs.Extend.{GrowOut}
-use Rattle.grow.specs.inner.Grow.{part, growOf}
-use Rattle.new_list.specs.inner.Write.{filledOf, grownOf, writeOf, putOf}
-use Rattle.card.specs.inner.Cards.{CardFacts}
-use Rattle.new_block.specs.inner.Fill.{fronted, tailed}
-use Rattle.health.specs.Health.{refusesProgram}
 
 no-need : (B : ℕ) (j : Job) (s : ℕ) → new j ≤ s → need B j s ≡ 0
 unfolding need

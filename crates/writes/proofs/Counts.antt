@@ -14,21 +14,21 @@ use Rattle.span.proofs.Words.{length-bytes32}
 use Rattle.layout.specs.Layout.{pointers, start, indexAt, offsetAt}
 use Rattle.layout.proofs.Laws.{pointers-zero}
 use Rattle.layout.proofs.Places.{offset-inside, offset-of, next-place, Same, Next}
+use Rattle.layout.proofs.InBlock.{InBlock}
+use Rattle.card.specs.Card.{pointer}
+use Rattle.card.specs.inner.Cards.{CardFacts}
+use Rattle.health.specs.Health.{refusesErase, refusesProgram}
 use Rattle.device.specs.Device.{stored, wiped}
+use Rattle.device.specs.inner.Bounds.{spot}
+use Rattle.trials.specs.Loop.{Took, Block, None, Bad}
 use Rattle.grow.specs.declared.Growth.the-variants.{Grown, Full, Damaged}
+use Rattle.grow.specs.Extend.{GrowOut}
+use Rattle.grow.specs.inner.Grow.{part, pointersOf, linkOf, spoils, growOf}
 use Rattle.writes.proofs.Cells.{stored-card, stored-other, cell}
 use Rattle.writes.proofs.Index.{in-block, roomy}
 use Rattle.writes.proofs.Grows.{wiped-card, wiped-other}
 use Rattle.writes.proofs.Links.{at-zero}
 use Rattle.writes.proofs.Allocators.{Drawn, Counter}
-use Rattle.trials.specs.Loop.{Took, Block, None, Bad}
-use Rattle.grow.specs.Extend.{GrowOut}
-use Rattle.grow.specs.inner.Grow.{part, pointersOf, linkOf, spoils, growOf}
-use Rattle.layout.proofs.InBlock.{InBlock}
-use Rattle.card.specs.inner.Cards.{CardFacts}
-use Rattle.card.specs.Card.{pointer}
-use Rattle.device.specs.inner.Bounds.{spot}
-use Rattle.health.specs.Health.{refusesErase, refusesProgram}
 
 -- only block k of the card changes
 pub record Only (B N k : ℕ) (img img′ : List ℕ) : Type 0 where

@@ -6,15 +6,15 @@ use lib.ListN.{length, replicate, take}
 use lib.Count.{trailingZeros}
 use Rattle.span.specs.Words.{wordAt, bytes32}
 use Rattle.layout.specs.Layout.{pointers, capacity, start, indexAt, offsetAt}
-use Rattle.ctz.specs.Lists.{down}
-use Rattle.device.specs.Device.{stored, wiped}
-use Rattle.old_list.specs.Write.{starts, wanted, looked, firstHead}
-use Rattle.writes.proofs.Listed.{lookAt, handOut}
-use Rattle.grow.specs.inner.Grow.{part, pointersOf, linkOf, spoils, growOf}
-use Rattle.trials.specs.Loop.{Written, NoRoom, WriteOut}
-use Rattle.new_list.specs.inner.Write.{filledOf, grownOf, writeOf, putOf}
 use Rattle.card.specs.Card.{pointer}
+use Rattle.device.specs.Device.{stored, wiped}
+use Rattle.ctz.specs.Lists.{down}
+use Rattle.trials.specs.Loop.{Written, NoRoom, WriteOut}
+use Rattle.grow.specs.inner.Grow.{part, pointersOf, linkOf, spoils, growOf}
+use Rattle.old_list.specs.Write.{starts, wanted, looked, firstHead}
 use Rattle.new_block.specs.inner.Fill.{fronted, tailed}
+use Rattle.new_list.specs.inner.Write.{filledOf, grownOf, writeOf, putOf}
+use Rattle.writes.proofs.Listed.{lookAt, handOut}
 
 -- one byte after a gap of two, into an empty file; block 2 refuses its erase, block 1 its program
 one-byte : WriteOut (List ℕ)

@@ -9,15 +9,15 @@ use borrow.Author.Tests.{ltb-true, ltb-false}
 use lib.Dec.{ltb}
 use lib.ListN.{length, getD, take, drop, length-replicate, getD-replicate, length-take, length-drop}
 use lib.Seq.{getD-take, getD-drop}
-use Rattle.device.specs.Device.{stored}
-use Rattle.old_list.specs.Write.{Job, over, zeros, Look, Found}
-use Rattle.writes.proofs.Cells.{stored-card, stored-other, stored-out, stored-in, part-length, part-at, cell}
-use Rattle.grow.specs.inner.Grow.{part}
-use Rattle.trials.specs.Loop.{WriteOut}
-use Rattle.new_list.specs.inner.Write.{filledOf}
 use Rattle.card.specs.inner.Cards.{CardFacts}
+use Rattle.device.specs.Device.{stored}
 use Rattle.device.specs.inner.Bounds.{spot}
+use Rattle.trials.specs.Loop.{WriteOut}
+use Rattle.grow.specs.inner.Grow.{part}
+use Rattle.old_list.specs.Write.{Job, over, zeros, Look, Found}
 use Rattle.new_block.specs.inner.Fill.{fronted, tailed}
+use Rattle.new_list.specs.inner.Write.{filledOf}
+use Rattle.writes.proofs.Cells.{stored-card, stored-other, stored-out, stored-in, part-length, part-at, cell}
 
 below-min : (x a b : ℕ) → x < a → x < b → x < min a b
 below-min x a b h g = omega arith

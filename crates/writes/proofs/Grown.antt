@@ -9,13 +9,13 @@ use borrow.Author.Tests.{eq-eqb, ne-eqb, eqb-true, eqb-false}
 use lib.Dec.{eqb}
 use lib.Pow.{pow-pos}
 use Rattle.layout.specs.Layout.{pointers, start, indexAt, offsetAt}
+use Rattle.layout.specs.inner.Served.{BlockSized}
 use Rattle.layout.proofs.Laws.{start-mono}
 use Rattle.layout.proofs.Places.{offset-inside}
+use Rattle.card.specs.Card.{pointer}
 use Rattle.writes.proofs.Cells.{pointer-same, cell, byteBy}
 use Rattle.writes.proofs.Index.{in-block, roomy, start-lt, index-is, pow-le}
 use Rattle.writes.proofs.Holds.{either, used, Holds}
-use Rattle.layout.specs.inner.Served.{BlockSized}
-use Rattle.card.specs.Card.{pointer}
 
 -- blocks f, with k for index i
 unfoldable pub put : (ℕ → ℕ) → ℕ → ℕ → ℕ → ℕ

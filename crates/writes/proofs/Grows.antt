@@ -7,18 +7,18 @@ use Prim.Native.Nat.{ℕ, zero, suc, _-_, _<_}
 use native.Mathlib.Omega.{arith}
 use lib.ListN.{length, replicate, length-replicate}
 use Rattle.layout.specs.Layout.{start, indexAt, offsetAt}
+use Rattle.card.specs.inner.Cards.{CardFacts}
+use Rattle.health.specs.Health.{refusesErase}
 use Rattle.device.specs.Device.{wiped}
+use Rattle.trials.specs.Loop.{Took, Block, None, Bad}
 use Rattle.grow.specs.declared.Growth.the-variants.{Grown, Full}
+use Rattle.grow.specs.Extend.{GrowOut}
+use Rattle.grow.specs.inner.Grow.{spoils, growOf}
 use Rattle.writes.proofs.Cells.{stored-card, stored-other, cell}
 use Rattle.writes.proofs.Holds.{moves, Holds}
 use Rattle.writes.proofs.Grown.{Made}
 use Rattle.writes.proofs.Links.{Linked, linked}
 use Rattle.writes.proofs.Allocators.{In, Stays, Allotted, Allocator, MustStand}
-use Rattle.trials.specs.Loop.{Took, Block, None, Bad}
-use Rattle.grow.specs.Extend.{GrowOut}
-use Rattle.grow.specs.inner.Grow.{spoils, growOf}
-use Rattle.card.specs.inner.Cards.{CardFacts}
-use Rattle.health.specs.Health.{refusesErase}
 
 module _ (B k : ℕ) (img : List ℕ) where
   -- an erase leaves a card

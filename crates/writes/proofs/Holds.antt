@@ -8,13 +8,13 @@ use native.Mathlib.Omega.{arith}
 use lib.ListN.{length, getD, length-append, List·getD-append}
 use lib.Seq.{getD-at}
 use Rattle.layout.specs.Layout.{pointers, start, indexAt, offsetAt}
+use Rattle.layout.specs.inner.Served.{BlockSized, blockList}
 use Rattle.layout.proofs.Laws.{start-mono}
 use Rattle.layout.proofs.Places.{offset-inside}
+use Rattle.card.specs.Card.{pointer}
 use Rattle.ctz.specs.Lists.{down, blockAt}
 use Rattle.writes.proofs.Cells.{pointer-same, cell, byteBy, bytesBy}
 use Rattle.writes.proofs.Index.{in-block, roomy, index-le, pointers-some}
-use Rattle.layout.specs.inner.Served.{BlockSized, blockList}
-use Rattle.card.specs.Card.{pointer}
 
 -- The blocks f, a function from index to block, carry a list of s bytes: those in use are below N and all different, and every pointer agrees with them
 -- (01, "A list is sound if .."). Index i is in use exactly if it starts below s: an empty list uses none.

@@ -6,13 +6,13 @@ use native.Mathlib.Omega.{arith, by-contra}
 use lib.Pow.{pow-pos}
 use lib.Count.{trailingZeros, trailing-le}
 use Rattle.layout.specs.Layout.{pointers, start, indexAt, offsetAt}
+use Rattle.layout.specs.inner.Served.{BlockSized}
 use Rattle.layout.proofs.Laws.{start-mono}
 use Rattle.layout.proofs.Places.{start-suc, offset-of}
 use Rattle.layout.proofs.Served.{served, index-in, index-found, pointers-fit}
+use Rattle.layout.proofs.InBlock.{InBlock}
 use Rattle.hops.proofs.Digits.{dvd-of-ctz, ctz-of-dvd}
 use Rattle.plain.proofs.Indexes.{index-met}
-use Rattle.layout.specs.inner.Served.{BlockSized}
-use Rattle.layout.proofs.InBlock.{InBlock}
 
 -- ---- pointers
 

@@ -13,18 +13,18 @@ use Rattle.span.proofs.Words.{length-bytes32}
 use Rattle.layout.specs.Layout.{pointers, start, indexAt, offsetAt}
 use Rattle.layout.proofs.Laws.{pointers-zero}
 use Rattle.layout.proofs.Places.{offset-inside, offset-past, offset-of, next-place, Same, Next}
+use Rattle.layout.proofs.InBlock.{InBlock}
+use Rattle.card.specs.Card.{pointer}
+use Rattle.card.specs.inner.Cards.{CardFacts}
 use Rattle.device.specs.Device.{stored}
+use Rattle.device.specs.inner.Bounds.{spot}
 use Rattle.grow.specs.declared.Growth.the-variants.{Grown}
+use Rattle.grow.specs.Extend.{GrowOut}
+use Rattle.grow.specs.inner.Grow.{part, pointersOf, linkOf}
 use Rattle.writes.proofs.Cells.{stored-card, stored-other, stored-out, stored-in, part-length, part-at, pointer-same, pointer-stored, cell}
 use Rattle.writes.proofs.Index.{in-block, roomy, start-lt, offset-is, pow-le, pow-next}
 use Rattle.writes.proofs.Holds.{either, moves, Holds}
 use Rattle.writes.proofs.Grown.{Made}
-use Rattle.grow.specs.Extend.{GrowOut}
-use Rattle.grow.specs.inner.Grow.{part, pointersOf, linkOf}
-use Rattle.layout.proofs.InBlock.{InBlock}
-use Rattle.card.specs.inner.Cards.{CardFacts}
-use Rattle.card.specs.Card.{pointer}
-use Rattle.device.specs.inner.Bounds.{spot}
 
 -- what linking block k to a list of s bytes leaves: k is the block of the next position, whose offset is answered; the allocator is untouched
 pub record Linked {W : Type 0} (B N : ℕ) (ks : W) (img : List ℕ) (f : ℕ → ℕ) (k s : ℕ) (o : GrowOut W) : Type 0 where

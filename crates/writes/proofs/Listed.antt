@@ -6,16 +6,16 @@ use Prim.Native.Nat.{ℕ, _^_, _<_}
 use native.Mathlib.Omega.{arith}
 use lib.ListN.{length}
 use Rattle.layout.specs.Layout.{start, indexAt}
+use Rattle.layout.specs.inner.Served.{blockList}
+use Rattle.card.specs.inner.Cards.{CardFacts, cardWith}
 use Rattle.ctz.specs.Lists.{SoundList, blockAt}
+use Rattle.trials.specs.Loop.{Took, Block, None, Bad}
 use Rattle.old_list.specs.Write.{Job, new, Look, Found}
+use Rattle.new_list.specs.inner.Write.{putOf}
 use Rattle.writes.proofs.Holds.{used}
 use Rattle.writes.proofs.Stands.{others-stand}
 use Rattle.writes.proofs.Writes.{Outcome, write-plain}
 use Rattle.writes.proofs.Allocators.{In, Stays, Allotted, Allocator, MustStand}
-use Rattle.trials.specs.Loop.{Took, Block, None, Bad}
-use Rattle.new_list.specs.inner.Write.{putOf}
-use Rattle.card.specs.inner.Cards.{CardFacts, cardWith}
-use Rattle.layout.specs.inner.Served.{blockList}
 
 -- The simplest allocator: a list of the blocks that it is yet to hand out, below N and all different.
 

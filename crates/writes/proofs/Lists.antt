@@ -4,13 +4,13 @@ use mathlib.Core.List.{List}
 use Prim.Native.Nat.{ℕ, zero, suc, _-_, _^_, _≤_, _<_}
 use native.Mathlib.Omega.{arith}
 use Rattle.layout.specs.Layout.{pointers, start, indexAt}
+use Rattle.layout.specs.inner.Served.{BlockSized, blockList}
 use Rattle.layout.proofs.Laws.{start-mono, pointers-zero, pointers-pos}
+use Rattle.card.specs.Card.{pointer}
+use Rattle.card.specs.inner.Cards.{cardWith}
 use Rattle.ctz.specs.Lists.{down, SoundList, blockAt}
 use Rattle.writes.proofs.Index.{index-le}
 use Rattle.writes.proofs.Holds.{used, renames, at-is, Holds}
-use Rattle.layout.specs.inner.Served.{BlockSized, blockList}
-use Rattle.card.specs.Card.{pointer}
-use Rattle.card.specs.inner.Cards.{cardWith}
 
 module _ (B N : ℕ) (sized : BlockSized B) (img : List ℕ) (head s : ℕ) (short : s < 2 ^ 32) where
   abbrev top : ℕ

@@ -8,12 +8,12 @@ use borrow.Author.Tests.{ltb-true}
 use lib.Dec.{ltb}
 use lib.ListN.{length}
 use Rattle.layout.specs.Layout.{start, indexAt}
+use Rattle.layout.specs.inner.Served.{BlockSized}
 use Rattle.layout.proofs.Laws.{start-mono}
 use Rattle.layout.proofs.Places.{index-mono}
+use Rattle.layout.proofs.InBlock.{InBlock}
 use Rattle.old_list.specs.Write.{Job, new, kept, over, Look, Found, starts, when, wanted, looked}
 use Rattle.writes.proofs.Index.{in-block, start-lt}
-use Rattle.layout.specs.inner.Served.{BlockSized}
-use Rattle.layout.proofs.InBlock.{InBlock}
 
 -- every position of a list is below a bound
 abbrev Under : ℕ → List ℕ → Type 0

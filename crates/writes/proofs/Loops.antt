@@ -9,8 +9,14 @@ use borrow.Author.Tests.{ltb-true, ltb-false}
 use lib.Dec.{ltb}
 use lib.ListN.{length}
 use Rattle.layout.specs.Layout.{indexAt, offsetAt}
+use Rattle.card.specs.inner.Cards.{CardFacts}
+use Rattle.health.specs.Health.{refusesProgram}
+use Rattle.trials.specs.Loop.{Took, Written, NoRoom, WriteOut}
 use Rattle.grow.specs.declared.Growth.the-variants.{Full}
+use Rattle.grow.specs.Extend.{GrowOut}
+use Rattle.grow.specs.inner.Grow.{growOf}
 use Rattle.old_list.specs.Write.{Job, new, Look}
+use Rattle.new_list.specs.inner.Write.{grownOf, writeOf}
 use Rattle.writes.proofs.Grows.{Growing, Got, growing}
 use Rattle.writes.proofs.Fills.{filling}
 use Rattle.writes.proofs.Widths.{share}
@@ -18,12 +24,6 @@ use Rattle.writes.proofs.States.{Begin, Between, stood, passed}
 use Rattle.writes.proofs.Turns.{turned, tail-block, room}
 use Rattle.writes.proofs.Grown.{put}
 use Rattle.writes.proofs.Allocators.{Stays, Allocator}
-use Rattle.trials.specs.Loop.{Took, Written, NoRoom, WriteOut}
-use Rattle.grow.specs.Extend.{GrowOut}
-use Rattle.grow.specs.inner.Grow.{growOf}
-use Rattle.new_list.specs.inner.Write.{grownOf, writeOf}
-use Rattle.card.specs.inner.Cards.{CardFacts}
-use Rattle.health.specs.Health.{refusesProgram}
 
 module _ {W : Type 0} (look : List ℕ → ℕ → Look) (B N : ℕ) (health : List ℕ) (tries : W → ℕ) (alloc : W → List ℕ → Took W)
     (L : ℕ → Type 0) (Ok : W → List ℕ → List ℕ → Type 0)

@@ -3,13 +3,13 @@ use mathlib.Core.Path.{_≡_, _∙_}
 use mathlib.Core.List.{List}
 use Prim.Native.Nat.{ℕ, _-_, _^_, _<_}
 use Rattle.layout.specs.Layout.{start, indexAt}
+use Rattle.layout.specs.inner.Served.{BlockSized, blockList}
+use Rattle.card.specs.inner.Cards.{cardWith}
 use Rattle.ctz.specs.Lists.{SoundList, blockAt}
 use Rattle.writes.proofs.Holds.{moves, bytes-moves, at-is, top-at, sound-bytes, Holds}
 use Rattle.writes.proofs.Lists.{list-holds, holds-list}
 use Rattle.writes.proofs.Cells.{cell, bytesBy}
 use Rattle.writes.proofs.Allocators.{Stays}
-use Rattle.layout.specs.inner.Served.{BlockSized, blockList}
-use Rattle.card.specs.inner.Cards.{cardWith}
 
 -- the list (head, s) on another image: sound, with the same blocks and the same bytes
 pub record Stands (B N : ℕ) (img img′ : List ℕ) (head s : ℕ) : Type 0 where

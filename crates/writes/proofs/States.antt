@@ -5,15 +5,15 @@ use mathlib.Core.List.{List}
 use Prim.Native.Nat.{ℕ, _-_, _^_, _≤_, _<_}
 use lib.ListN.{length}
 use Rattle.layout.specs.Layout.{start, indexAt}
+use Rattle.card.specs.inner.Cards.{CardFacts}
+use Rattle.trials.specs.Loop.{Took}
+use Rattle.grow.specs.Extend.{GrowOut}
 use Rattle.old_list.specs.Write.{Job, new, kept, Look, Found}
 use Rattle.writes.proofs.Plain.{overAt}
 use Rattle.writes.proofs.Holds.{moves, byte-moves, Holds}
 use Rattle.writes.proofs.Grows.{Growing}
 use Rattle.writes.proofs.Cells.{cell, byteBy, bytesBy}
 use Rattle.writes.proofs.Allocators.{Stays, Allocator, MustStand}
-use Rattle.trials.specs.Loop.{Took}
-use Rattle.grow.specs.Extend.{GrowOut}
-use Rattle.card.specs.inner.Cards.{CardFacts}
 
 -- what the file reads as in the end
 abbrev pub want : ℕ → Job → List ℕ → (ℕ → ℕ) → ℕ → ℕ

@@ -9,8 +9,14 @@ use borrow.Author.Tests.{eqb-true, eqb-false}
 use lib.Dec.{eqb}
 use lib.ListN.{length, List·getD-eq-default}
 use Rattle.layout.specs.Layout.{start, indexAt, offsetAt}
+use Rattle.layout.specs.inner.Served.{BlockSized}
 use Rattle.layout.proofs.Places.{offset-past, index-mono}
+use Rattle.layout.proofs.InBlock.{InBlock}
+use Rattle.card.specs.inner.Cards.{CardFacts}
+use Rattle.trials.specs.Loop.{Took}
+use Rattle.grow.specs.Extend.{GrowOut}
 use Rattle.old_list.specs.Write.{Job, new, kept, over, Look, Found}
+use Rattle.new_block.specs.inner.Fill.{fronted}
 use Rattle.writes.proofs.Cells.{pointer-same, cell, byteBy, bytesBy}
 use Rattle.writes.proofs.Index.{offset-is, roomy}
 use Rattle.writes.proofs.Holds.{either, byte-at, moves, byte-moves, bytes-length, bytes-at, Holds}
@@ -22,12 +28,6 @@ use Rattle.writes.proofs.Widths as widths
 use Rattle.writes.proofs.Widths.{share}
 use Rattle.writes.proofs.States.{want, Begin, Between, stood, known}
 use Rattle.writes.proofs.Allocators.{Stays, Allocator, MustStand}
-use Rattle.trials.specs.Loop.{Took}
-use Rattle.grow.specs.Extend.{GrowOut}
-use Rattle.layout.specs.inner.Served.{BlockSized}
-use Rattle.layout.proofs.InBlock.{InBlock}
-use Rattle.card.specs.inner.Cards.{CardFacts}
-use Rattle.new_block.specs.inner.Fill.{fronted}
 
 module _ {W : Type 0} (look : List ℕ → ℕ → Look) (B N : ℕ) (health : List ℕ) (tries : W → ℕ) (alloc : W → List ℕ → Took W)
     (L : ℕ → Type 0) (Ok : W → List ℕ → List ℕ → Type 0)

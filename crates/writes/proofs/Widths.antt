@@ -7,12 +7,12 @@ use native.Mathlib.Omega.{arith}
 use borrow.Author.Tests.{lt-ltb, le-ltb}
 use lib.Dec.{ltb}
 use Rattle.layout.specs.Layout.{pointers, start, indexAt, offsetAt}
+use Rattle.layout.specs.inner.Served.{BlockSized}
 use Rattle.layout.proofs.Places.{start-suc}
+use Rattle.layout.proofs.InBlock.{InBlock}
 use Rattle.old_list.specs.Write.{Job, new}
 use Rattle.writes.proofs.Index.{in-block, roomy, index-is, index-le, offset-is, start-index}
 use Rattle.writes.proofs.Holds.{either}
-use Rattle.layout.specs.inner.Served.{BlockSized}
-use Rattle.layout.proofs.InBlock.{InBlock}
 
 -- how many of n bytes go into the block of position s
 abbrev pub share : ℕ → ℕ → ℕ → ℕ

@@ -7,8 +7,12 @@ use Prim.Native.Nat.{ℕ, zero, suc, _-_, _^_, _≤_, _<_, max}
 use native.Mathlib.Omega.{arith}
 use lib.ListN.{length, getD}
 use Rattle.layout.specs.Layout.{start, indexAt}
+use Rattle.layout.specs.inner.Served.{BlockSized, blockList}
+use Rattle.card.specs.inner.Cards.{CardFacts, cardWith}
 use Rattle.ctz.specs.Lists.{SoundList, blockAt}
+use Rattle.trials.specs.Loop.{Took, Written, NoRoom, WriteOut}
 use Rattle.old_list.specs.Write.{Job, new, kept, over, Look, Found, firstHead, foundOr, looked, wanted}
+use Rattle.new_list.specs.inner.Write.{writeOf, putOf}
 use Rattle.writes.proofs.Index.{in-block, start-lt}
 use Rattle.writes.proofs.Holds.{shrinks, at-is, sound-bytes, bytes-length, bytes-at, Holds}
 use Rattle.writes.proofs.Lists.{list-holds, holds-list}
@@ -18,10 +22,6 @@ use Rattle.writes.proofs.States.{want, Begin, Between}
 use Rattle.writes.proofs.Loops.{Ended, done, short, writing}
 use Rattle.writes.proofs.Cells.{bytesBy}
 use Rattle.writes.proofs.Allocators.{In, Stays, Allocator, MustStand}
-use Rattle.trials.specs.Loop.{Took, Written, NoRoom, WriteOut}
-use Rattle.new_list.specs.inner.Write.{writeOf, putOf}
-use Rattle.layout.specs.inner.Served.{BlockSized, blockList}
-use Rattle.card.specs.inner.Cards.{CardFacts, cardWith}
 
 first-head : (look : List ℕ → ℕ → Look) (img : List ℕ) (old : ℕ) (f : ℕ → ℕ) (B : ℕ) → ((p : ℕ) → p < old → look img p ≡ Found (f (indexAt B p)))
     → (q : ℕ) → 0 < q → q ≤ old → f (indexAt B (q - 1)) ≡ firstHead (look img) q

@@ -1,9 +1,9 @@
 -- `alloc::alloc` meets its contract: each test that led to a return settles the answer. Assumes nothing.
 use mathlib.Core.Path.{sym, _∙_}
+use borrow.Author.Needs.{needs}
 use Rattle.card.proofs.Cards.{card}
 use Rattle.window.proofs.Valid.{looks}
 use Rattle.alloc.proofs.Tested.{no-card, no-lookahead, no-window, no-table, tested, ready}
-use borrow.Author.Needs.{needs}
 use Rattle.alloc.proofs.alloc.Statement.{statement}
 use Rattle.alloc.proofs.alloc.Tie as tie
 

@@ -1,14 +1,14 @@
 -- `alloc::alloc_in` meets its contract: what is left of the allocation, from the window as it stands, comes to what the whole one does; the count bounds the
 -- searches. Assumes nothing.
+use borrow.Author.Needs.{needs}
+use Rattle.card.specs.inner.Cards.{cardWith}
 use Rattle.window.proofs.Valid.{good}
 use Rattle.window.proofs.Kept.{take-valid}
 use Rattle.window.proofs.Turns.{left}
 use Rattle.alloc.specs.Visits.{seenIn}
 use Rattle.alloc.proofs.Turning.{Allocating, allocating, answers-block, answers-none, answers-damaged, less-left, allocates-on}
-use borrow.Author.Needs.{needs}
 use Rattle.alloc.proofs.alloc_in.Statement.{statement}
 use Rattle.alloc.proofs.alloc_in.Tie as tie
-use Rattle.card.specs.inner.Cards.{cardWith}
 
 abbrev Inv-loop : tie.InvT-loop
 Inv-loop b n l image t v₀ v = Allocating n l (seenIn (cardWith b n image) t) v₀ v

@@ -1,13 +1,13 @@
 -- `alloc::alloc_scan` meets its contract: what is left of the scan, from the window as it stands, comes to what the whole scan does. Assumes nothing.
 use mathlib.Core.Path.{refl, _∙_}
 use Prim.Native.Nat.{_-_, _≤_, _<_}
+use native.Mathlib.Omega.{arith}
+use borrow.Author.Needs.{needs}
 use lib.ListN.{length}
 use Rattle.files.proofs.Laws.{slots-ok, count-ok, table-valid}
 use Rattle.window.proofs.Valid.{good}
 use Rattle.window.proofs.Kept.{cleared-valid}
 use Rattle.alloc.proofs.Scanning.{Scanning, scanned-all, scanned-one, scanned-none, scan-answers}
-use borrow.Author.Needs.{needs}
-use native.Mathlib.Omega.{arith}
 use Rattle.alloc.proofs.alloc_scan.Statement.{statement}
 use Rattle.alloc.proofs.alloc_scan.Tie as tie
 

@@ -1,16 +1,16 @@
 -- `alloc::mark_file` meets its contract: what is left of the visit, marked from the map as it stands, comes to what the whole visit does. Assumes nothing.
 use mathlib.Core.Path.{sym, _∙_}
+use native.Mathlib.Omega.{arith}
+use borrow.Author.Needs.{needs}
+use Rattle.layout.specs.inner.Served.{blockList}
 use Rattle.layout.proofs.Served.{served}
+use Rattle.card.specs.Card.{pointer}
+use Rattle.card.specs.inner.Cards.{cardWith}
 use Rattle.ctz.specs.Visits.{visitOf}
 use Rattle.ctz.proofs.Visiting.{visitFrom, visit-damaged, visit-last, visit-more, step-answers}
 use Rattle.alloc.proofs.Files.{Goes, goes, goes-on, goes-last, goes-wrong, no-block, mark-asked}
-use borrow.Author.Needs.{needs}
-use native.Mathlib.Omega.{arith}
 use Rattle.alloc.proofs.mark_file.Statement.{statement}
 use Rattle.alloc.proofs.mark_file.Tie as tie
-use Rattle.card.specs.Card.{pointer}
-use Rattle.card.specs.inner.Cards.{cardWith}
-use Rattle.layout.specs.inner.Served.{blockList}
 
 abbrev Inv-loop : tie.InvT-loop
 Inv-loop map₀ start size b n image bytes v₀ map v =

@@ -4,13 +4,13 @@ use mathlib.Core.Bool.{Bool, true}
 use mathlib.Core.List.{List}
 use Prim.Native.Nat.{ℕ, _≤_, _<_}
 use Rattle.layout.specs.Numbers.{sizeMax}
+use Rattle.card.specs.inner.Cards.{CardFacts}
 use Rattle.files.specs.declared.Entry.{Entry}
 use Rattle.files.specs.declared.Table.{Table}
 use Rattle.files.specs.Table.{tableOk}
 use Rattle.window.specs.declared.Lookahead.{Lookahead}
 use Rattle.window.specs.Scan.{Seen, markAll}
 use Rattle.window.specs.inner.Facts.{ValidWindow, GoodScope, windowOn}
-use Rattle.card.specs.inner.Cards.{CardFacts}
 
 -- behind the tests: a card with N and L as they should be, a window that is not refused, and a table
 pub record Ready (B N l len : ℕ) (t : Table) (w : Lookahead) : Type 0 where

@@ -2,12 +2,12 @@
 use mathlib.Core.Path.{_≡_, sym, ap, _∙_}
 use Prim.Native.Nat.{ℕ, _-_, _≤_}
 use native.Mathlib.Omega.{arith}
+use Rattle.card.specs.Card.{pointer}
 use Rattle.ctz.specs.Lists.{down}
 use Rattle.ctz.proofs.Room.{first-asked}
 use Rattle.audit.proofs.Further.{down-next, down-none}
 use Rattle.audit.proofs.below_in.Statement.{statement}
 use Rattle.audit.proofs.below_in.Tie as tie
-use Rattle.card.specs.Card.{pointer}
 
 abbrev Inv-loop : tie.InvT-loop
 Inv-loop b n image k d at₀ i₀ at i = (i ≤ d) × (at ≡ down (pointer b image) k i)

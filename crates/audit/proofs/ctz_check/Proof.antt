@@ -6,8 +6,10 @@ use denote.Ref.{now}
 use borrow.Author.Needs.{needs}
 use borrow.Author.Tests.{not-true, not-false}
 use lib.ListN.{length}
+use Rattle.layout.specs.inner.Served.{geometry}
 use Rattle.layout.proofs.Served.{served}
 use Rattle.card.specs.Card.{goodCard}
+use Rattle.card.specs.inner.Cards.{CardFacts}
 use Rattle.card.proofs.Cards.{card}
 use Rattle.ctz.proofs.Room.{walks}
 use Rattle.audit.proofs.Falling.{falls-below}
@@ -15,8 +17,6 @@ use Rattle.audit.proofs.Further.{then-sound, then-unsound, then-refused
 use Rattle.audit.proofs.Checks.{check-card, check-large, check-empty, check-head, check-list}
 use Rattle.audit.proofs.ctz_check.Statement.{statement}
 use Rattle.audit.proofs.ctz_check.Tie as tie
-use Rattle.card.specs.inner.Cards.{CardFacts}
-use Rattle.layout.specs.inner.Served.{geometry}
 
 good-card-requires : tie.Need-good-card-requires
 good-card-requires c κs = search needs

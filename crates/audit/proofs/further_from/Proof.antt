@@ -3,13 +3,13 @@
 use mathlib.Core.Path.{_≡_, refl, sym, _∙_}
 use native.Mathlib.Omega.{arith}
 use borrow.Author.Needs.{needs}
+use Rattle.card.specs.Card.{pointer}
 use Rattle.ctz.proofs.Room.{first-asked}
 use Rattle.audit.specs.Check.{further}
+use Rattle.audit.specs.inner.Bounds.{CleanWalk}
 use Rattle.audit.proofs.Further.{head-below, behind, further-none, further-on, then-sound, then-unsound, then-refused}
 use Rattle.audit.proofs.further_from.Statement.{statement}
 use Rattle.audit.proofs.further_from.Tie as tie
-use Rattle.card.specs.Card.{pointer}
-use Rattle.audit.specs.inner.Bounds.{CleanWalk}
 
 abbrev Inv-loop : tie.InvT-loop
 Inv-loop b n image top head i₀ k₀ i k =

@@ -4,14 +4,14 @@ use Prim.Native.Nat.{ℕ, _+_, _-_, _^_, _≤_}
 use native.Mathlib.Nat.{add-sub-cancel}
 use native.Mathlib.Omega.{arith}
 use Rattle.hops.specs.Walk.{ctz}
+use Rattle.card.specs.Card.{pointer}
 use Rattle.ctz.specs.Lists.{down}
 use Rattle.ctz.proofs.Room.{asked}
 use Rattle.audit.specs.Check.{names}
+use Rattle.audit.specs.inner.Bounds.{holder}
 use Rattle.audit.proofs.Further.{stored-within, stored-width, fewer, head-below, names-none, names-differ, names-on}
 use Rattle.audit.proofs.pointers_at.Statement.{statement}
 use Rattle.audit.proofs.pointers_at.Tie as tie
-use Rattle.card.specs.Card.{pointer}
-use Rattle.audit.specs.inner.Bounds.{holder}
 
 abbrev Inv-loop : tie.InvT-loop
 Inv-loop b n image i k zeros x₀ x =

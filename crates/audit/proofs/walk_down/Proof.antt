@@ -4,14 +4,14 @@ use mathlib.Core.Path.{_≡_, refl, sym, ap, _∙_}
 use mathlib.Core.List.{List, [], _∷_}
 use Prim.Native.Nat.{ℕ, _-_, _<_}
 use native.Mathlib.Omega.{arith}
+use Rattle.span.specs.Members.{has}
+use Rattle.card.specs.Card.{pointer}
+use Rattle.ctz.specs.inner.Forms.{pointersWith}
 use Rattle.ctz.proofs.Room.{first-asked}
 use Rattle.audit.specs.Check.{falls}
 use Rattle.audit.proofs.Falling.{Agrees, agree-none, agree-put, falls-far, falls-again, falls-end, falls-on}
 use Rattle.audit.proofs.walk_down.Statement.{statement}
 use Rattle.audit.proofs.walk_down.Tie as tie
-use Rattle.card.specs.Card.{pointer}
-use Rattle.ctz.specs.inner.Forms.{pointersWith}
-use Rattle.span.specs.Members.{has}
 
 abbrev Inv-loop : tie.InvT-loop
 Inv-loop b n image top head met₀ i₀ k₀ met i k =

@@ -7,12 +7,12 @@ use borrow.Author.Needs.{needs}
 use lib.Seq.{sets}
 use Rattle.layout.specs.Layout.{pointers}
 use Rattle.layout.proofs.Served.{served}
-use Rattle.plain.specs.Reading.{Got}
+use Rattle.plain.specs.Reading.{Gathered}
+use Rattle.finding.specs.inner.Runs.{gotBytes}
 use Rattle.finding.proofs.Gathers.{all-none}
 use Rattle.copies.proofs.Copying.{Copying, begins, pointers-few, inside, turning, offset-less, turn, parted, copying-on}
 use Rattle.copies.proofs.copy_all.Statement.{statement}
 use Rattle.copies.proofs.copy_all.Tie as tie
-use Rattle.finding.specs.inner.Runs.{gotBytes}
 
 abbrev Inv-loop : tie.InvT-loop
 Inv-loop b n image head size pos count at blocks₀ buffer₀ top last first base₀ i₀ offset₀ p₀ left₀ to₀ blocks buffer base i offset p left to =
@@ -137,7 +137,7 @@ same-length c = search needs
 returns : tie.Need-returns Inv-loop μ-loop
 returns c =
     let i = c .before .loop .inv in
-    sym (i .whole ∙ ap (λ (g : Got). sets (c .before .loop .buffer) (c .before .loop .to) (gotBytes g)) (all-none _ _ _ _ _ _ _ (c .loop-test .left)))
+    sym (i .whole ∙ ap (λ (g : Gathered). sets (c .before .loop .buffer) (c .before .loop .to) (gotBytes g)) (all-none _ _ _ _ _ _ _ (c .loop-test .left)))
 
 pub copy-all-spec : {M : Type 1} → statement M
 copy-all-spec =

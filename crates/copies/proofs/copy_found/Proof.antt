@@ -1,23 +1,23 @@
 -- `copy_found` copies a run exactly if every lookup finds its block: the first block's part, then the rest, once all of it was found. Assumes nothing.
 use mathlib.Core.Path.{_≡_, sym, ap, _∙_}
-use borrow.Author.Tests.{not-true, not-false}
-use denote.Ref.{now}
-use lib.ListN.{length}
 use Prim.Native.Nat.{_+_, _-_}
-use Rattle.ctz.specs.Lookup.{walkTo}
-use Rattle.ctz.specs.declared.Found.the-variants.{At}
-use Rattle.plain.specs.Reading.{gather}
-use Rattle.copies.specs.inner.Copies.{Parted}
-use Rattle.finding.proofs.Gathers.{offset-below, never-refused, Step, step, clean-turn, copy-keeps, copy-first, copy-only, all-damaged}
-use Rattle.copies.proofs.Outcomes.{run-copied, run-damaged}
 use native.Mathlib.Omega.{arith}
+use denote.Ref.{now}
+use borrow.Author.Tests.{not-true, not-false}
 use borrow.Author.Needs.{needs}
-use Rattle.copies.proofs.copy_found.Statement.{statement}
-use Rattle.copies.proofs.copy_found.Tie as tie
-use Rattle.card.specs.inner.Cards.{cardWith}
+use lib.ListN.{length}
 use Rattle.layout.specs.inner.Served.{blockList}
+use Rattle.card.specs.inner.Cards.{cardWith}
+use Rattle.ctz.specs.declared.Found.the-variants.{At}
+use Rattle.ctz.specs.Lookup.{walkTo}
+use Rattle.plain.specs.Reading.{gather}
 use Rattle.plain.specs.inner.Forms.{range}
 use Rattle.finding.specs.inner.Runs.{clean}
+use Rattle.finding.proofs.Gathers.{offset-below, never-refused, Step, step, clean-turn, copy-keeps, copy-first, copy-only, all-damaged}
+use Rattle.copies.specs.inner.Copies.{Parted}
+use Rattle.copies.proofs.Outcomes.{run-copied, run-damaged}
+use Rattle.copies.proofs.copy_found.Statement.{statement}
+use Rattle.copies.proofs.copy_found.Tie as tie
 
 find-in-requires : tie.Need-find-in-requires
 find-in-requires c κs = search needs

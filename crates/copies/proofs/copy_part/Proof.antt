@@ -1,8 +1,8 @@
 -- `copy_part` copies a part of the block that it lends. Assumes nothing.
 use mathlib.Core.Path.{ap, _∙_}
 use Prim.Native.Nat.{_*_}
-use borrow.Author.Needs.{needs}
 use denote.Ref.{now}
+use borrow.Author.Needs.{needs}
 use lib.Seq.{sets}
 use Rattle.finding.proofs.Parts.{lent-part}
 use Rattle.copies.proofs.copy_part.Statement.{statement}

@@ -5,19 +5,19 @@ use mathlib.Core.List.{List}
 use Prim.Native.Nat.{ℕ, _+_, _*_, _≤_, _<_}
 use lib.ListN.{length}
 use lib.Seq.{sets}
-use Rattle.plain.specs.Reading.{Got, gather}
+use Rattle.layout.specs.inner.Served.{blockList}
+use Rattle.card.specs.inner.Cards.{cardWith}
+use Rattle.plain.specs.Reading.{gather, Gathered}
+use Rattle.plain.specs.inner.Forms.{range}
 use Rattle.finding.specs.inner.Bounds.{Ranged}
 use Rattle.finding.specs.inner.Runs.{clean, gotBytes, Noted}
-use Rattle.card.specs.inner.Cards.{cardWith}
-use Rattle.layout.specs.inner.Served.{blockList}
-use Rattle.plain.specs.inner.Forms.{range}
 
 -- whether a run was copied, and the buffer behind it
 pub record Copied : Type 0 where
   pub whole : Bool
   pub after : List ℕ
 
-unfoldable pub copiedOf : List ℕ → Got → Copied
+unfoldable pub copiedOf : List ℕ → Gathered → Copied
 copiedOf buffer g = record { whole = clean g; after = sets buffer 0 (gotBytes g) }
 
 -- n bytes from position p on, at least one, with room for all.

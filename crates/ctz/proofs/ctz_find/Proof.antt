@@ -6,12 +6,12 @@ use denote.Ref.{now}
 use borrow.Author.Needs.{needs}
 use borrow.Author.Tests.{not-true, not-false}
 use lib.ListN.{length}
+use Rattle.layout.specs.inner.Served.{geometry}
 use Rattle.card.specs.Card.{goodCard}
 use Rattle.card.proofs.Cards.{card}
 use Rattle.ctz.proofs.Lookups.{lookup-card, lookup-large, lookup-empty, lookup-past, lookup-walks}
 use Rattle.ctz.proofs.ctz_find.Statement.{statement}
 use Rattle.ctz.proofs.ctz_find.Tie as tie
-use Rattle.layout.specs.inner.Served.{geometry}
 
 good-card-requires : tie.Need-good-card-requires
 good-card-requires c κs = search needs

@@ -2,9 +2,9 @@
 use mathlib.Core.Path.{_∙_}
 use native.Mathlib.Nat.{one-mul}
 use native.Mathlib.Omega.{arith}
+use borrow.Author.Needs.{needs}
 use lib.Dec.{lit<}
 use lib.Pow.{shl-exact}
-use borrow.Author.Needs.{needs}
 use Rattle.ctz.proofs.power.Statement.{statement}
 use Rattle.ctz.proofs.power.Tie as tie
 

@@ -4,13 +4,13 @@ use mathlib.Core.Path.{_≡_, refl, sym, _∙_}
 use Prim.Native.Nat.{suc, _+_, _-_, _≤_, _<_}
 use native.Mathlib.Nat.{sub-zero}
 use native.Mathlib.Omega.{arith}
+use Rattle.card.specs.Card.{pointer}
 use Rattle.ctz.specs.Lookup.{walk}
+use Rattle.ctz.specs.inner.Forms.{pointersWith, target, stand}
 use Rattle.ctz.proofs.Room.{asked}
 use Rattle.ctz.proofs.Walked.{walk-damaged, walk-at, walk-hop, pick-stored, pick-width, jump-down}
 use Rattle.ctz.proofs.walk_to.Statement.{statement}
 use Rattle.ctz.proofs.walk_to.Tie as tie
-use Rattle.card.specs.Card.{pointer}
-use Rattle.ctz.specs.inner.Forms.{pointersWith, target, stand}
 
 abbrev Inv-loop : tie.InvT-loop
 Inv-loop b n image off tgt top head cur₀ k₀ hops₀ cur k hops =

@@ -9,6 +9,11 @@ pub record Walks (B N top len : ℕ) : Type 0 where
   pub card : CardFacts B N len
   pub room : (i : ℕ) → i ≤ top → 4 * pointers i ≤ B
 
+-- A list behind the tests: a card, and a size that is none too large.
+pub record ListFacts (B N size len : ℕ) : Type 0 where
+  pub card : CardFacts B N len
+  pub most : size ≤ sizeMax
+
 -- A lookup behind its tests: a card, a size that is none too large, a position below it.
 pub record LookupAsked (B N size p len : ℕ) : Type 0 where
   pub card : CardFacts B N len

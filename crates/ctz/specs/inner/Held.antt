@@ -3,8 +3,8 @@ use mathlib.Core.Bool.{Bool, true, false}
 use mathlib.Core.List.{[], _∷_}
 use Prim.Native.Nat.{ℕ, zero, suc, _-_, _%_}
 use lib.Dec.{ltb, eqb}
-use Rattle.ctz.specs.Visits.{Visited}
 use Rattle.ctz.specs.declared.visit.Visit.{Visit}
+use Rattle.ctz.specs.Visits.{Visited}
 
 -- whether the number behind index i is read now as a second pointer, to be held for the step after the next
 abbrev pub readsBy : Bool → Bool → Bool

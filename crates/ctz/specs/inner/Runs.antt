@@ -5,9 +5,9 @@ use mathlib.Core.List.{List}
 use Prim.Native.Nat.{ℕ, suc, _+_, _≤_, _<_}
 use lib.ListN.{length, getD}
 use Rattle.layout.specs.Numbers.{nullBlock}
-use Rattle.ctz.specs.Lookup.{walk}
 use Rattle.ctz.specs.declared.Found.{Found}
 use Rattle.ctz.specs.declared.Found.the-variants.{At, Damaged, Refused}
+use Rattle.ctz.specs.Lookup.{walk}
 use Rattle.ctz.specs.inner.Forms.{pointersWith, target, stand}
 use Rattle.ctz.specs.inner.Bounds.{RunAsked}
 

@@ -3,13 +3,13 @@ use mathlib.Core.Path.{_≡_}
 use mathlib.Core.Bool.{true, false}
 use mathlib.Core.List.{List}
 use Prim.Native.Nat.{ℕ}
-use Rattle.device.specs.Device.{stored, wiped}
-use Rattle.device.specs.inner.Bounds.{spot}
+use Rattle.health.specs.Health.{refusesErase, refusesProgram}
 use Rattle.device.specs.declared.Erased.{Erased}
 use Rattle.device.specs.declared.Erased.the-variants.{Wiped, Kept}
 use Rattle.device.specs.declared.Programmed.{Programmed}
 use Rattle.device.specs.declared.Programmed.the-variants.{Stored, Refused}
-use Rattle.health.specs.Health.{refusesErase, refusesProgram}
+use Rattle.device.specs.Device.{stored, wiped}
+use Rattle.device.specs.inner.Bounds.{spot}
 
 -- what an erase leaves
 pub record EraseOut : Type 0 where

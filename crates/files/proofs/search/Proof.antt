@@ -5,12 +5,12 @@ use native.Mathlib.Omega.{arith}
 use borrow.Author.Needs.{needs}
 use lib.ListN.{length}
 use lib.Seq.{slice}
+use Rattle.layout.specs.Numbers.{filesMax}
 use Rattle.files.specs.Table.{searchOf}
 use Rattle.files.proofs.Laws.{slots-ok, count-ok}
 use Rattle.files.proofs.Turns.{search-here, search-on, search-end}
 use Rattle.files.proofs.search.Statement.{statement}
 use Rattle.files.proofs.search.Tie as tie
-use Rattle.layout.specs.Numbers.{filesMax}
 
 abbrev Inv-loop : tie.InvT-loop
 Inv-loop number t count i₀ i =

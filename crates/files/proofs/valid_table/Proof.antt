@@ -5,11 +5,11 @@ use native.Mathlib.Omega.{arith}
 use borrow.Author.Needs.{needs}
 use lib.ListN.{length, length-map}
 use lib.Seq.{slice}
+use Rattle.layout.specs.Numbers.{filesMax}
 use Rattle.files.specs.Table.{filesOk}
 use Rattle.files.proofs.Laws.{entry-good, files-turn, files-end, count-out, table-is}
 use Rattle.files.proofs.valid_table.Statement.{statement}
 use Rattle.files.proofs.valid_table.Tie as tie
-use Rattle.layout.specs.Numbers.{filesMax}
 
 abbrev Inv-loop : tie.InvT-loop
 Inv-loop t count least₀ i₀ least i =

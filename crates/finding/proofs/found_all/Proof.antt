@@ -2,9 +2,9 @@
 use Prim.Native.Nat.{_+_, _-_}
 use native.Mathlib.Nat.{min-le-left, min-le-right}
 use native.Mathlib.Omega.{arith}
+use denote.Ref.{now}
 use borrow.Author.Needs.{needs}
 use borrow.Author.Tests.{not-true, not-false}
-use denote.Ref.{now}
 use Rattle.finding.proofs.Positions.{indexed, ordered}
 use Rattle.finding.proofs.Answers.{answered-lost, answered-short, answered-on}
 use Rattle.finding.proofs.found_all.Statement.{statement}

@@ -6,10 +6,10 @@ use native.Mathlib.Omega.{arith}
 use borrow.Author.Needs.{needs}
 use borrow.Author.Tests.{not-true, not-false}
 use lib.ListN.{length}
+use Rattle.card.specs.Card.{pointer}
 use Rattle.finding.proofs.Runs.{Passed, passed-none, passed-more, passed-all, run-missed}
 use Rattle.finding.proofs.found_from.Statement.{statement}
 use Rattle.finding.proofs.found_from.Tie as tie
-use Rattle.card.specs.Card.{pointer}
 
 abbrev Inv-loop : tie.InvT-loop
 Inv-loop b n image head top first last blocks₀ i₀ blocks i =

@@ -5,26 +5,26 @@ use mathlib.Core.List.{List, []}
 use Prim.Native.Nat.{ℕ, _+_, _-_, _^_, _≤_, _<_}
 use lib.ListN.{length, getD}
 use Rattle.layout.specs.Layout.{indexAt}
-use Rattle.ctz.specs.declared.Found.the-variants.{Damaged}
-use Rattle.plain.specs.Reading.{Got, Bytes, gather}
-use Rattle.finding.specs.inner.Bounds.{Ranged}
+use Rattle.layout.specs.inner.Served.{blockList}
 use Rattle.card.specs.Card.{pointer}
+use Rattle.card.specs.inner.Cards.{cardWith}
+use Rattle.ctz.specs.declared.Found.the-variants.{Damaged}
 use Rattle.ctz.specs.inner.Bounds.{Walks}
 use Rattle.ctz.specs.inner.Runs.{seek, Finds}
-use Rattle.card.specs.inner.Cards.{cardWith}
-use Rattle.layout.specs.inner.Served.{blockList}
+use Rattle.plain.specs.Reading.{Bytes, gather, Gathered}
 use Rattle.plain.specs.inner.Forms.{range}
+use Rattle.finding.specs.inner.Bounds.{Ranged}
 
 -- whether no lookup met -84
-abbrev pub clean : Got → Bool
+abbrev pub clean : Gathered → Bool
 clean (Bytes bytes) = true
-clean Got.Damaged = false
-clean Got.Refused = false
+clean Gathered.Damaged = false
+clean Gathered.Refused = false
 
-abbrev pub gotBytes : Got → List ℕ
+abbrev pub gotBytes : Gathered → List ℕ
 gotBytes (Bytes bytes) = bytes
-gotBytes Got.Damaged = []
-gotBytes Got.Refused = []
+gotBytes Gathered.Damaged = []
+gotBytes Gathered.Refused = []
 
 -- the lookup of every index from `first` to `last` finds its block
 abbrev pub Reached : (ℕ → ℕ → ℕ) → ℕ → ℕ → ℕ → ℕ → ℕ → Type 0

@@ -1,9 +1,9 @@
 -- `grow::ctz_extend` meets its contract: the tests decide between the growth and the refusal. Assumes nothing.
 use mathlib.Core.Path.{sym, _∙_}
+use borrow.Author.Needs.{needs}
 use Rattle.grow.proofs.Extends.{grew}
 use Rattle.grow.proofs.Tests.{extending}
 use Rattle.grow.proofs.Same.{extend-same, extend-refused}
-use borrow.Author.Needs.{needs}
 use Rattle.grow.proofs.ctz_extend.Statement.{statement}
 use Rattle.grow.proofs.ctz_extend.Tie as tie
 

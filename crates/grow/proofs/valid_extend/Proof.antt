@@ -1,6 +1,6 @@
 -- `grow::valid_extend` meets its contract: each test that fails settles the answer, and the last one is it. Assumes nothing.
-use Rattle.grow.proofs.Tests.{held, fails, lookahead-le, no-card, no-health, no-lookahead, no-window, no-table, last-test}
 use borrow.Author.Needs.{needs}
+use Rattle.grow.proofs.Tests.{held, fails, lookahead-le, no-card, no-health, no-lookahead, no-window, no-table, last-test}
 use Rattle.grow.proofs.valid_extend.Statement.{statement}
 use Rattle.grow.proofs.valid_extend.Tie as tie
 

@@ -4,13 +4,13 @@ use mathlib.Core.Bool.{Bool, true, false}
 use mathlib.Core.List.{List}
 use Prim.Native.Nat.{ℕ, _≤_, _<_}
 use lib.ListN.{length}
+use Rattle.card.specs.inner.Cards.{CardFacts}
+use Rattle.health.specs.Health.{refusesErase}
 use Rattle.device.specs.Device.{wiped}
 use Rattle.grow.specs.declared.block.Linked.{Linked}
 use Rattle.grow.specs.declared.block.Linked.the-variants.{Done, Spoiled}
 use Rattle.grow.specs.Extend.{GrowOut}
 use Rattle.grow.specs.inner.Grow.{pointersOf, linkOf, spoils}
-use Rattle.card.specs.inner.Cards.{CardFacts}
-use Rattle.health.specs.Health.{refusesErase}
 
 -- what a try leaves
 pub record LinkOut : Type 0 where

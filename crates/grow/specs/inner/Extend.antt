@@ -8,12 +8,12 @@ use Rattle.layout.specs.Numbers.{sizeMax}
 use Rattle.files.specs.declared.Table.{Table}
 use Rattle.files.specs.Table.{tableOk}
 use Rattle.window.specs.declared.Lookahead.{Lookahead}
+use Rattle.alloc.specs.inner.Facts.{Ready}
 use Rattle.trials.specs.Loop.{Took}
 use Rattle.grow.specs.Extend.{GrowOut, allocIn}
 use Rattle.grow.specs.Setting.{testedOf}
 use Rattle.grow.specs.inner.Setting.{setting}
 use Rattle.grow.specs.inner.Grow.{growOf}
-use Rattle.alloc.specs.inner.Facts.{Ready}
 
 -- the window as an allocator, by numbers
 unfoldable pub windowAlloc : ℕ → ℕ → ℕ → Table → Lookahead → List ℕ → Took Lookahead

@@ -6,13 +6,13 @@ use lib.Dec.{eqb, ltb}
 use lib.ListN.{take, drop}
 use Rattle.span.specs.Words.{bytes32}
 use Rattle.layout.specs.Layout.{pointers, indexAt, offsetAt}
-use Rattle.device.specs.Device.{stored, wiped}
-use Rattle.grow.specs.declared.Growth.the-variants.{Grown, Full, Damaged}
-use Rattle.trials.specs.Loop.{Took, Block, None, Bad}
-use Rattle.grow.specs.Extend.{GrowOut, grow-out}
 use Rattle.card.specs.Card.{pointer}
-use Rattle.device.specs.inner.Bounds.{spot}
 use Rattle.health.specs.Health.{refusesErase, refusesProgram}
+use Rattle.device.specs.Device.{stored, wiped}
+use Rattle.device.specs.inner.Bounds.{spot}
+use Rattle.trials.specs.Loop.{Took, Block, None, Bad}
+use Rattle.grow.specs.declared.Growth.the-variants.{Grown, Full, Damaged}
+use Rattle.grow.specs.Extend.{GrowOut, grow-out}
 
 -- n bytes of block f from offset o
 unfoldable pub part : ℕ → ℕ → ℕ → ℕ → List ℕ → List ℕ

@@ -1,8 +1,8 @@
 -- What index and offset are asked with, and records made of plain numbers, for the contracts and laws that have those.
 use mathlib.Core.Path.{_≡_}
 use Prim.Native.Nat.{ℕ, _^_, _≤_, _<_}
-use Rattle.layout.specs.Layout.{indexAt, BlockList}
 use Rattle.layout.specs.declared.Geometry.{Geometry}
+use Rattle.layout.specs.Layout.{indexAt, BlockList}
 
 -- The block sizes that lists are laid out for. The crates above hand this on and do not look inside.
 pub record BlockSized (B : ℕ) : Type 0 where

@@ -1,9 +1,9 @@
 -- `new_block::front` meets its contract: the zeros, then the run of data that there is. Assumes nothing.
 use native.Mathlib.Nat.{lt-of-le-of-lt}
+use native.Mathlib.Omega.{arith}
+use borrow.Author.Needs.{needs}
 use Rattle.new_block.proofs.Blanks.{zeros-blank, data-blank}
 use Rattle.new_block.proofs.Fills.{gap-fits, front-spoiled, front-goes}
-use borrow.Author.Needs.{needs}
-use native.Mathlib.Omega.{arith}
 use Rattle.new_block.proofs.front.Statement.{statement}
 use Rattle.new_block.proofs.front.Tie as tie
 

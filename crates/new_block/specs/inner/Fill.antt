@@ -5,18 +5,18 @@ use mathlib.Core.List.{List}
 use Prim.Native.Nat.{ℕ, _+_, _-_, min, _≤_, _<_}
 use lib.Dec.{ltb}
 use lib.ListN.{length, take, drop}
-use Rattle.device.specs.declared.Programmed.the-variants.{Stored, Refused}
-use Rattle.device.specs.Device.{stored}
-use Rattle.files.specs.declared.Entry.{Entry}
-use Rattle.new_block.specs.declared.Filled.{Filled}
-use Rattle.new_block.specs.declared.Filled.the-variants.{Done, Spoiled, Damaged}
-use Rattle.old_list.specs.Write.{zeros, Job, over, new, Look, jobOf}
 use Rattle.layout.specs.Numbers.{sizeMax}
 use Rattle.card.specs.inner.Cards.{CardFacts}
-use Rattle.device.specs.inner.Steps.{ProgramOut}
-use Rattle.grow.specs.inner.Grow.{part}
-use Rattle.device.specs.inner.Bounds.{Blank, spot}
 use Rattle.health.specs.Health.{refusesProgram}
+use Rattle.device.specs.declared.Programmed.the-variants.{Stored, Refused}
+use Rattle.device.specs.Device.{stored}
+use Rattle.device.specs.inner.Steps.{ProgramOut}
+use Rattle.device.specs.inner.Bounds.{Blank, spot}
+use Rattle.files.specs.declared.Entry.{Entry}
+use Rattle.grow.specs.inner.Grow.{part}
+use Rattle.old_list.specs.Write.{zeros, Job, over, new, Look, jobOf}
+use Rattle.new_block.specs.declared.Filled.{Filled}
+use Rattle.new_block.specs.declared.Filled.the-variants.{Done, Spoiled, Damaged}
 
 -- Block k holds the file up to position s, at offset off; n more positions go into it. First the gap's zeros, then the data:
 unfoldable pub fronted : ℕ → ℕ → ℕ → ℕ → ℕ → ℕ → List ℕ → List ℕ → List ℕ

@@ -1,8 +1,8 @@
 -- `new_list::put` meets its contract: a block that is not found ends it, else the growths give what it gives. Assumes nothing.
+use native.Mathlib.Omega.{arith}
+use borrow.Author.Needs.{needs}
 use Rattle.new_list.proofs.Puts.{putting-look, putting-on, put-lost, put-tailless, put-goes}
 use Rattle.new_list.proofs.Goes.{wrote-as}
-use borrow.Author.Needs.{needs}
-use native.Mathlib.Omega.{arith}
 use Rattle.new_list.proofs.put.Statement.{statement}
 use Rattle.new_list.proofs.put.Tie as tie
 

@@ -1,6 +1,6 @@
 -- `new_list::write_on` meets its contract: what is left to do equals the whole write (`Rest`), and each growth lowers the checkpoint count. Assumes nothing.
-use Rattle.new_list.proofs.Goes.{Rest, wrote-as, rest-start, rest-extends, rest-fills, falls, goes-on, moves-on, ends-done, ends-full, ends-damaged, ends-refused, ends-lost, loop-new, loop-end}
 use borrow.Author.Needs.{needs}
+use Rattle.new_list.proofs.Goes.{Rest, wrote-as, rest-start, rest-extends, rest-fills, falls, goes-on, moves-on, ends-done, ends-full, ends-damaged, ends-refused, ends-lost, loop-new, loop-end}
 use Rattle.new_list.proofs.write_on.Statement.{statement}
 use Rattle.new_list.proofs.write_on.Tie as tie
 

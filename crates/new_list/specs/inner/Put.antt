@@ -3,20 +3,20 @@ use mathlib.Core.Path.{_≡_}
 use mathlib.Core.List.{List}
 use Prim.Native.Nat.{ℕ, suc, _+_, _≤_}
 use lib.ListN.{length}
+use Rattle.layout.specs.Numbers.{sizeMax}
 use Rattle.files.specs.declared.Entry.{Entry}
 use Rattle.files.specs.declared.Table.{Table}
 use Rattle.window.specs.declared.Lookahead.{Lookahead}
+use Rattle.window.specs.Value.{checkpointOf}
+use Rattle.alloc.specs.inner.Facts.{Ready}
+use Rattle.trials.specs.Loop.{Writing, Written, NoRoom, Corrupt, WriteOut}
+use Rattle.grow.specs.inner.Extend.{windowAlloc}
+use Rattle.old_list.specs.Write.{jobOf}
+use Rattle.old_list.specs.inner.Lookups.{lookIn}
 use Rattle.new_list.specs.declared.Writing.the-variants as writing
 use Rattle.new_list.specs.declared.Writing as declared
 use Rattle.new_list.specs.declared.Wrote.{Wrote}
-use Rattle.window.specs.Value.{checkpointOf}
-use Rattle.layout.specs.Numbers.{sizeMax}
-use Rattle.grow.specs.inner.Extend.{windowAlloc}
-use Rattle.trials.specs.Loop.{Writing, Written, NoRoom, Corrupt, WriteOut}
 use Rattle.new_list.specs.inner.Write.{writeOf, putOf}
-use Rattle.alloc.specs.inner.Facts.{Ready}
-use Rattle.old_list.specs.Write.{jobOf}
-use Rattle.old_list.specs.inner.Lookups.{lookIn}
 
 -- the growths from window w and the list (h, s) on, m of them at most
 unfoldable pub onBy : ℕ → ℕ → ℕ → ℕ → List ℕ → Table → Entry → ℕ → List ℕ → Lookahead → ℕ → ℕ → List ℕ → WriteOut Lookahead

@@ -3,13 +3,13 @@ use mathlib.Core.Bool.{true, false}
 use mathlib.Core.List.{List}
 use Prim.Native.Nat.{ℕ, zero, suc, _+_, _-_, min}
 use lib.Dec.{ltb}
+use Rattle.health.specs.Health.{refusesProgram}
 use Rattle.trials.specs.Loop.{Took, Written, NoRoom, Corrupt, WriteOut, write-out}
 use Rattle.grow.specs.declared.Growth.the-variants as growth
 use Rattle.grow.specs.Extend.{GrowOut}
 use Rattle.grow.specs.inner.Grow.{growOf}
 use Rattle.old_list.specs.Write.{Job, over, new, kept, Look, Found, Lost, wanted, looked, firstHead}
 use Rattle.new_block.specs.inner.Fill.{fronted, tailed}
-use Rattle.health.specs.Health.{refusesProgram}
 
 -- What follows the front of a block: where tail is due its old block is looked up, on the image as it then stands; -84 where it is not found.
 unfoldable pub filledOf : {W : Type 0} → (List ℕ → ℕ → Look) → ℕ → Job → ℕ → ℕ → ℕ → ℕ → List ℕ → W → (List ℕ → WriteOut W) → WriteOut W

@@ -1,10 +1,10 @@
 -- `old_list::block_start` meets its contract: what the offset counts behind the pointers lies behind the block's first position. Assumes nothing.
 use mathlib.Core.Path.{refl, ap}
+use native.Mathlib.Omega.{arith}
+use borrow.Author.Needs.{needs}
 use Rattle.layout.specs.Layout.{pointers}
 use Rattle.layout.proofs.Places.{offset-past, offset-of}
 use Rattle.old_list.proofs.Index.{start-back}
-use borrow.Author.Needs.{needs}
-use native.Mathlib.Omega.{arith}
 use Rattle.old_list.proofs.block_start.Statement.{statement}
 use Rattle.old_list.proofs.block_start.Tie as tie
 

@@ -1,14 +1,14 @@
 -- `old_list::first_head` meets its contract: by where q lies, the block of byte q - 1 is the last one that is looked for. Assumes nothing.
 use mathlib.Core.Path.{sym, _∙_}
 use mathlib.Core.Logic.{⊎-elim}
+use native.Mathlib.Omega.{arith}
+use borrow.Author.Needs.{needs}
 use Rattle.layout.proofs.Served.{served}
+use Rattle.old_list.specs.inner.Lookups.{lookIn}
 use Rattle.old_list.proofs.Looks.{look-same, told-block, told-lost}
 use Rattle.old_list.proofs.Heads.{head-none, head-lost, head-inside, head-border, head-first}
-use borrow.Author.Needs.{needs}
-use native.Mathlib.Omega.{arith}
 use Rattle.old_list.proofs.first_head.Statement.{statement}
 use Rattle.old_list.proofs.first_head.Tie as tie
-use Rattle.old_list.specs.inner.Lookups.{lookIn}
 
 returns : tie.Need-returns
 returns c =

@@ -1,10 +1,10 @@
 -- `old_list::look` meets its contract: the head at the last byte, else the lookup's answer, case by case. Assumes nothing.
 use mathlib.Core.Path.{sym, ap, _∙_}
+use borrow.Author.Needs.{needs}
 use Rattle.ctz.specs.declared.Found.{Found}
 use Rattle.old_list.specs.Write.{Look, lookOf}
 use Rattle.old_list.specs.inner.Lookups.{lookedOf}
 use Rattle.old_list.proofs.Looks.{look-head, look-headless}
-use borrow.Author.Needs.{needs}
 use Rattle.old_list.proofs.look.Statement.{statement}
 use Rattle.old_list.proofs.look.Tie as tie
 

@@ -1,13 +1,13 @@
 -- `old_list::look_before` meets its contract: the block before the head's is the head's pointer 0; else it is looked for. Assumes nothing.
 use mathlib.Core.Path.{sym, ap, _∙_}
 use Prim.Native.Nat.{_-_}
+use native.Mathlib.Omega.{arith}
+use borrow.Author.Needs.{needs}
 use Rattle.layout.proofs.Served.{served}
 use Rattle.ctz.proofs.Room.{first-asked}
 use Rattle.old_list.specs.declared.Looked.the-variants as looked-as
 use Rattle.old_list.specs.inner.Lookups.{lookedOf}
 use Rattle.old_list.proofs.Looks.{look-headless, look-next, look-next-lost}
-use borrow.Author.Needs.{needs}
-use native.Mathlib.Omega.{arith}
 use Rattle.old_list.proofs.look_before.Statement.{statement}
 use Rattle.old_list.proofs.look_before.Tie as tie
 

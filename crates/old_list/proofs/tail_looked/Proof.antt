@@ -1,14 +1,14 @@
 -- `old_list::tail_looked` meets its contract: what is left to look for equals the whole. Assumes nothing.
 use mathlib.Core.Path.{_≡_, refl, sym, ap, _∙_}
 use Prim.Native.Nat.{ℕ, _+_, _-_}
+use native.Mathlib.Omega.{arith}
+use borrow.Author.Needs.{needs}
 use Rattle.layout.proofs.Places.{offset-inside}
 use Rattle.layout.proofs.Served.{served, index-in}
 use Rattle.old_list.specs.Write.{looked}
 use Rattle.old_list.specs.inner.Lookups.{tailWanted, lookIn}
 use Rattle.old_list.proofs.Looks.{look-same, told-block, told-lost}
 use Rattle.old_list.proofs.Heads.{tail-lost, tail-turn, tail-end}
-use borrow.Author.Needs.{needs}
-use native.Mathlib.Omega.{arith}
 use Rattle.old_list.proofs.tail_looked.Statement.{statement}
 use Rattle.old_list.proofs.tail_looked.Tie as tie
 

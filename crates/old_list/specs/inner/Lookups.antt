@@ -2,17 +2,16 @@
 use mathlib.Core.Bool.{Bool, true, false}
 use mathlib.Core.List.{List, [], _∷_, _++_}
 use mathlib.Core.Path.{_≡_}
-use Prim.Native.Nat.{ℕ, _+_, _-_, _≤_, _<_}
+use Prim.Native.Nat.{ℕ, _+_, _-_, _<_}
 use lib.Dec.{ltb}
 use Rattle.layout.specs.Layout.{indexAt, start}
+use Rattle.layout.specs.inner.Served.{blockList}
+use Rattle.card.specs.inner.Cards.{cardWith}
 use Rattle.ctz.specs.Lookup.{walkTo}
 use Rattle.files.specs.declared.Entry.{Entry}
 use Rattle.old_list.specs.declared.Looked.{Looked}
 use Rattle.old_list.specs.declared.Looked.the-variants as looked-as
 use Rattle.old_list.specs.Write.{Look, lookOf, when, starts, looked, firstHead}
-use Rattle.layout.specs.Numbers.{sizeMax}
-use Rattle.card.specs.inner.Cards.{CardFacts, cardWith}
-use Rattle.layout.specs.inner.Served.{blockList}
 
 -- a lookup in the list of a file
 abbrev pub lookIn : ℕ → ℕ → Entry → List ℕ → ℕ → Look
@@ -38,11 +37,6 @@ foundIf false h = Look.Lost
 -- the head of the first growth, where all that is kept is found
 unfoldable pub keptOf : (List ℕ → ℕ → Look) → ℕ → List ℕ → ℕ → Look
 keptOf look B img q = foundIf (looked (look img) (keptWanted B q)) (firstHead (look img) q)
-
--- what a lookup asks: a card, and a size that is none too large
-pub record Looking (B N : ℕ) (e : Entry) (len : ℕ) : Type 0 where
-  pub card : CardFacts B N len
-  pub most : e .size ≤ sizeMax
 
 -- first is where the block of byte q - 1 starts, behind another block
 pub record Behind (B q first : ℕ) : Type 0 where

@@ -1,6 +1,6 @@
 -- `programs::program` meets its contract: a block that does not refuse is lent, and the bytes are copied into it. Assumes nothing.
-use borrow.Author.Needs.{needs}
 use native.Mathlib.Omega.{arith}
+use borrow.Author.Needs.{needs}
 use lib.ListN.{take, drop, length-take, length-drop}
 use Rattle.device.proofs.Steps.{gives-refused, gives-stored}
 use Rattle.device.proofs.Bounds.{lent-block}

@@ -1,6 +1,6 @@
 -- `programs::program_copy` meets its contract: the bytes are copied within the image, unless the block refuses. Assumes nothing.
-use borrow.Author.Needs.{needs}
 use Prim.Native.Nat.{_+_, _*_}
+use borrow.Author.Needs.{needs}
 use lib.ListN.{take, drop}
 use Rattle.device.specs.Device.{stored}
 use Rattle.device.proofs.Steps.{gives-refused, gives-stored}

@@ -1,7 +1,7 @@
 -- `programs::program_zeros` meets its contract: a block that does not refuse is lent, and zeros are filled in. Assumes nothing.
-use borrow.Author.Needs.{needs}
 use mathlib.Core.List.{List}
 use Prim.Native.Nat.{ℕ}
+use borrow.Author.Needs.{needs}
 use lib.ListN.{replicate, length-replicate}
 use Rattle.device.proofs.Steps.{gives-refused, gives-stored}
 use Rattle.device.proofs.Bounds.{lent-block}

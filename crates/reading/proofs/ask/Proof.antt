@@ -3,12 +3,12 @@ use mathlib.Core.Path.{_≡_, sym, _∙_}
 use mathlib.Core.Bool.{true}
 use native.Mathlib.Omega.{arith}
 use borrow.Author.Tests.{not-true, not-false}
+use borrow.Author.Needs.{needs}
+use Rattle.layout.specs.inner.Served.{geometry}
 use Rattle.card.specs.Card.{goodCard}
 use Rattle.reading.proofs.Asks.{found-slot, ask-card, ask-missing, ask-refused, ask-far, ask-file}
-use borrow.Author.Needs.{needs}
 use Rattle.reading.proofs.ask.Statement.{statement}
 use Rattle.reading.proofs.ask.Tie as tie
-use Rattle.layout.specs.inner.Served.{geometry}
 
 good-card-requires : tie.Need-good-card-requires
 good-card-requires c κs = search needs

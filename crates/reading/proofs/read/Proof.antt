@@ -1,8 +1,8 @@
 -- `read` leaves and answers what `readOf` says: behind the tests the list lies on a card, and `read_in` does the rest.
 use mathlib.Core.Path.{sym, _∙_}
+use borrow.Author.Needs.{needs}
 use Rattle.reading.proofs.Asks.{listed}
 use Rattle.reading.proofs.Results.{read-file, read-missing, read-refused}
-use borrow.Author.Needs.{needs}
 use Rattle.reading.proofs.read.Statement.{statement}
 use Rattle.reading.proofs.read.Tie as tie
 

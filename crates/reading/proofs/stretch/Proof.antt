@@ -1,6 +1,6 @@
 -- `stretch` hands out the part of the image at the place and of the length that its companion answers.
-use Rattle.reading.proofs.Results.{placed-within, stretch-part}
 use borrow.Author.Needs.{needs}
+use Rattle.reading.proofs.Results.{placed-within, stretch-part}
 use Rattle.reading.proofs.stretch.Statement.{statement}
 use Rattle.reading.proofs.stretch.Tie as tie
 

@@ -1,8 +1,8 @@
 -- `stretch_place` answers what `stretchOf` says, as `read` does.
 use mathlib.Core.Path.{sym, _∙_}
+use borrow.Author.Needs.{needs}
 use Rattle.reading.proofs.Asks.{listed}
 use Rattle.reading.proofs.Results.{place-file, place-missing, place-refused}
-use borrow.Author.Needs.{needs}
 use Rattle.reading.proofs.stretch_place.Statement.{statement}
 use Rattle.reading.proofs.stretch_place.Tie as tie
 

@@ -1,13 +1,6 @@
--- What the inner functions ask of their callers, as named bounds, and records of plain numbers.
-use Prim.Native.Nat.{ℕ, _≤_}
-use Rattle.layout.specs.Numbers.{sizeMax}
-use Rattle.card.specs.inner.Cards.{CardFacts}
+-- A position in a file by plain numbers.
+use Prim.Native.Nat.{ℕ}
 use Rattle.reading.specs.Calls.{FilePosition}
-
--- A list behind the tests: a card, and a size that is none too large.
-pub record Listed (B N size len : ℕ) : Type 0 where
-  pub card : CardFacts B N len
-  pub most : size ≤ sizeMax
 
 -- file number, position
 abbrev pub filePosition : ℕ → ℕ → FilePosition

@@ -1,10 +1,10 @@
 -- `store::write` meets its contract: the tests in their order, then the file. Assumes nothing.
 use mathlib.Core.Path.{sym, _∙_}
+use borrow.Author.Needs.{needs}
 use Rattle.grow.proofs.Tests.{held, fails}
 use Rattle.store.proofs.Tested.{asked}
 use Rattle.store.proofs.Files.{gives}
 use Rattle.store.proofs.Calls.{write-untested, write-no-table, write-missing, write-found}
-use borrow.Author.Needs.{needs}
 use Rattle.store.proofs.write.Statement.{statement}
 use Rattle.store.proofs.write.Tie as tie
 

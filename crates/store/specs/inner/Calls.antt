@@ -2,18 +2,18 @@
 use mathlib.Core.List.{List, []}
 use Prim.Native.Nat.{ℕ, _≤_, _<_}
 use lib.ListN.{length}
+use Rattle.layout.specs.Numbers.{filesMax, sizeMax}
+use Rattle.card.specs.inner.Cards.{CardFacts}
 use Rattle.files.specs.declared.Table.{Table}
 use Rattle.files.specs.Table.{file}
 use Rattle.window.specs.declared.Lookahead.{Lookahead}
+use Rattle.alloc.specs.inner.Facts.{Ready}
 use Rattle.trials.specs.Loop.{Writing, Written, NoRoom, Corrupt}
 use Rattle.new_list.specs.declared.Writing as declared
 use Rattle.new_list.specs.declared.Writing.the-variants as writing
 use Rattle.store.specs.declared.Stored.{Stored}
 use Rattle.store.specs.Asked.{WriteAsked, TruncateAsked}
 use Rattle.store.specs.Store.{written, storedOf}
-use Rattle.layout.specs.Numbers.{filesMax, sizeMax}
-use Rattle.card.specs.inner.Cards.{CardFacts}
-use Rattle.alloc.specs.inner.Facts.{Ready}
 
 -- what a call is asked, by its parts
 abbrev pub askWrite : ℕ → ℕ → List ℕ → WriteAsked

@@ -5,6 +5,8 @@ use Prim.Native.Nat.{ℕ, _+_, _-_}
 use lib.Dec.{ltb, eqb}
 use lib.ListN.{length}
 use Rattle.layout.specs.Numbers.{sizeMax, nullBlock}
+use Rattle.layout.specs.inner.Served.{blockList}
+use Rattle.card.specs.inner.Cards.{cardWith}
 use Rattle.ctz.specs.declared.Found.{Found}
 use Rattle.ctz.specs.declared.Found.the-variants as found
 use Rattle.ctz.specs.Lookup.{walkTo}
@@ -12,14 +14,12 @@ use Rattle.files.specs.declared.Table.{Table}
 use Rattle.files.specs.Table.{file}
 use Rattle.files.specs.Change as change
 use Rattle.window.specs.declared.Lookahead.{Lookahead}
+use Rattle.old_list.specs.Write.{zeros}
+use Rattle.new_list.specs.inner.Put.{puts}
 use Rattle.store.specs.declared.Outcome.{Outcome}
 use Rattle.store.specs.declared.Outcome.the-variants as outcome
 use Rattle.store.specs.declared.Stored.{Stored}
-use Rattle.old_list.specs.Write.{zeros}
 use Rattle.store.specs.Store.{StoreOut, left, writtenOf}
-use Rattle.new_list.specs.inner.Put.{puts}
-use Rattle.card.specs.inner.Cards.{cardWith}
-use Rattle.layout.specs.inner.Served.{blockList}
 
 abbrev pub stays : Outcome → Lookahead → Table → Stored
 stays a w t = record { answer = a; window = w; table = t }

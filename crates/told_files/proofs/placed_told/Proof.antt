@@ -1,7 +1,7 @@
 -- `told_files::placed_told` meets its contract, case by case. Assumes nothing.
 use mathlib.Core.Path.{ap, sym}
-use Rattle.told_files.specs.Contents.{placedTold}
 use borrow.Author.Needs.{needs}
+use Rattle.told_files.specs.Contents.{placedTold}
 use Rattle.told_files.proofs.placed_told.Statement.{statement}
 use Rattle.told_files.proofs.placed_told.Tie as tie
 

@@ -1,7 +1,7 @@
 -- `told_files::read_told` meets its contract, case by case. Assumes nothing.
 use mathlib.Core.Path.{ap, sym}
-use Rattle.told_files.specs.Contents.{readTold}
 use borrow.Author.Needs.{needs}
+use Rattle.told_files.specs.Contents.{readTold}
 use Rattle.told_files.proofs.read_told.Statement.{statement}
 use Rattle.told_files.proofs.read_told.Tie as tie
 

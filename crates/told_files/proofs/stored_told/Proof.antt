@@ -1,9 +1,9 @@
 -- `told_files::stored_told` meets its contract: the code is that of the answer. Assumes nothing.
 use mathlib.Core.Path.{_≡_, ap, _∙_}
+use borrow.Author.Needs.{needs}
 use lib.IntN.{ℤ}
 use mir.Val.{toZ, ofZ}
 use mir.Syntax.{w32}
-use borrow.Author.Needs.{needs}
 use Rattle.told_files.proofs.stored_told.Statement.{statement}
 use Rattle.told_files.proofs.stored_told.Tie as tie
 

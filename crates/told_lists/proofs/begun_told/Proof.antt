@@ -1,7 +1,7 @@
 -- `told_lists::begun_told` meets its contract, case by case. Assumes nothing.
 use mathlib.Core.Path.{ap, sym}
-use Rattle.told_lists.specs.Lists.{begunTold}
 use borrow.Author.Needs.{needs}
+use Rattle.told_lists.specs.Lists.{begunTold}
 use Rattle.told_lists.proofs.begun_told.Statement.{statement}
 use Rattle.told_lists.proofs.begun_told.Tie as tie
 

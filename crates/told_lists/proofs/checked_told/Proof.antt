@@ -1,7 +1,7 @@
 -- `told_lists::checked_told` meets its contract, case by case. Assumes nothing.
 use mathlib.Core.Path.{ap, sym, _∙_}
-use Rattle.told_lists.specs.Lists.{checkedTold}
 use borrow.Author.Needs.{needs}
+use Rattle.told_lists.specs.Lists.{checkedTold}
 use Rattle.told_lists.proofs.checked_told.Statement.{statement}
 use Rattle.told_lists.proofs.checked_told.Tie as tie
 

@@ -1,7 +1,7 @@
 -- `told_lists::fault_told` meets its contract, case by case. Assumes nothing.
 use mathlib.Core.Path.{ap, sym}
-use Rattle.told_lists.specs.Lists.{faultTold}
 use borrow.Author.Needs.{needs}
+use Rattle.told_lists.specs.Lists.{faultTold}
 use Rattle.told_lists.proofs.fault_told.Statement.{statement}
 use Rattle.told_lists.proofs.fault_told.Tie as tie
 

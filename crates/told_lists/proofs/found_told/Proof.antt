@@ -1,7 +1,7 @@
 -- `told_lists::found_told` meets its contract, case by case. Assumes nothing.
 use mathlib.Core.Path.{ap, sym}
-use Rattle.told_lists.specs.Lists.{foundTold}
 use borrow.Author.Needs.{needs}
+use Rattle.told_lists.specs.Lists.{foundTold}
 use Rattle.told_lists.proofs.found_told.Statement.{statement}
 use Rattle.told_lists.proofs.found_told.Tie as tie
 

@@ -1,7 +1,7 @@
 -- `told_lists::place_told` meets its contract, case by case. Assumes nothing.
 use mathlib.Core.Path.{ap, sym}
-use Rattle.told_lists.specs.Lists.{placeTold}
 use borrow.Author.Needs.{needs}
+use Rattle.told_lists.specs.Lists.{placeTold}
 use Rattle.told_lists.proofs.place_told.Statement.{statement}
 use Rattle.told_lists.proofs.place_told.Tie as tie
 

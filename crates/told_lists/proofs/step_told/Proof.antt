@@ -1,7 +1,7 @@
 -- `told_lists::step_told` meets its contract, case by case. Assumes nothing.
 use mathlib.Core.Path.{ap, sym}
-use Rattle.told_lists.specs.Lists.{stepTold}
 use borrow.Author.Needs.{needs}
+use Rattle.told_lists.specs.Lists.{stepTold}
 use Rattle.told_lists.proofs.step_told.Statement.{statement}
 use Rattle.told_lists.proofs.step_told.Tie as tie
 

@@ -1,7 +1,7 @@
 -- `told_tables::saved_told` meets its contract, case by case. Assumes nothing.
 use mathlib.Core.Path.{ap, sym}
-use Rattle.told_tables.specs.Tables.{savedTold}
 use borrow.Author.Needs.{needs}
+use Rattle.told_tables.specs.Tables.{savedTold}
 use Rattle.told_tables.proofs.saved_told.Statement.{statement}
 use Rattle.told_tables.proofs.saved_told.Tie as tie
 

@@ -1,7 +1,7 @@
 -- `told_tables::sized_told` meets its contract, case by case. Assumes nothing.
 use mathlib.Core.Path.{ap, sym}
-use Rattle.told_tables.specs.Tables.{sizedTold}
 use borrow.Author.Needs.{needs}
+use Rattle.told_tables.specs.Tables.{sizedTold}
 use Rattle.told_tables.proofs.sized_told.Statement.{statement}
 use Rattle.told_tables.proofs.sized_told.Tie as tie
 

@@ -1,7 +1,7 @@
 -- `told_tables::sought_told` meets its contract, case by case. Assumes nothing.
 use mathlib.Core.Path.{ap, sym}
-use Rattle.told_tables.specs.Tables.{soughtTold}
 use borrow.Author.Needs.{needs}
+use Rattle.told_tables.specs.Tables.{soughtTold}
 use Rattle.told_tables.proofs.sought_told.Statement.{statement}
 use Rattle.told_tables.proofs.sought_told.Tie as tie
 

@@ -1,6 +1,6 @@
 -- `window::cleared` meets its contract. Assumes nothing.
-use Rattle.window.specs.Scan.{cleared}
 use borrow.Author.Needs.{needs}
+use Rattle.window.specs.Scan.{cleared}
 use Rattle.window.proofs.cleared.Statement.{statement}
 use Rattle.window.proofs.cleared.Tie as tie
 

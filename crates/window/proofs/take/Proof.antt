@@ -1,9 +1,9 @@
 -- `window::take` meets its contract: the two searches are those of the definition, and neither passes more blocks than the count allows. Assumes nothing.
 use mathlib.Core.Path.{sym}
 use borrow.Author.Tests.{lt-ltb, le-ltb}
+use borrow.Author.Needs.{needs}
 use Rattle.window.specs.Allocate.{takeOf}
 use Rattle.window.proofs.Search.{used-up, moved-on}
-use borrow.Author.Needs.{needs}
 use Rattle.window.proofs.take.Statement.{statement}
 use Rattle.window.proofs.take.Tie as tie
 

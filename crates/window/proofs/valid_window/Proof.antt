@@ -1,6 +1,6 @@
 -- `window::valid_window` meets its contract: the tests come in the order of the definition. Assumes nothing.
-use Rattle.window.proofs.Valid.{bad-start, bad-next, bad-size, bad-left, last-test}
 use borrow.Author.Needs.{needs}
+use Rattle.window.proofs.Valid.{bad-start, bad-next, bad-size, bad-left, last-test}
 use Rattle.window.proofs.valid_window.Statement.{statement}
 use Rattle.window.proofs.valid_window.Tie as tie
 

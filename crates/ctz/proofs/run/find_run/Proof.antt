@@ -4,11 +4,11 @@ use Prim.Native.Nat.{_-_, _≤_}
 use native.Mathlib.Omega.{arith}
 use borrow.Author.Needs.{needs}
 use lib.ListN.{length, length-set}
+use Rattle.card.specs.Card.{pointer}
+use Rattle.ctz.specs.inner.Runs.{RunFound}
 use Rattle.ctz.proofs.Runs.{known-none, known-more, known-all, run-lost}
 use Rattle.ctz.proofs.run.find_run.Statement.{statement}
 use Rattle.ctz.proofs.run.find_run.Tie as tie
-use Rattle.card.specs.Card.{pointer}
-use Rattle.ctz.specs.inner.Runs.{RunFound}
 
 abbrev Inv-loop : tie.InvT-loop
 Inv-loop b n image head top first count blocks₀ j₀ blocks j =

@@ -1,9 +1,9 @@
 -- `ctz::run::walked` meets its contract, by the answer of the walk. Assumes nothing.
 use mathlib.Core.Path.{sym, ap, _∙_}
 use borrow.Author.Needs.{needs}
+use Rattle.ctz.specs.inner.Runs.{numberOf}
 use Rattle.ctz.proofs.run.walked.Statement.{statement}
 use Rattle.ctz.proofs.run.walked.Tie as tie
-use Rattle.ctz.specs.inner.Runs.{numberOf}
 
 walk-to-requires : tie.Need-walk-to-requires
 walk-to-requires c κs = search needs

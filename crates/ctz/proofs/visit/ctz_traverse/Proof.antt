@@ -5,12 +5,12 @@ use denote.Ref.{now}
 use borrow.Author.Needs.{needs}
 use borrow.Author.Tests.{not-true, not-false}
 use lib.ListN.{length}
+use Rattle.layout.specs.inner.Served.{geometry}
 use Rattle.card.specs.Card.{goodCard}
 use Rattle.card.proofs.Cards.{card}
 use Rattle.ctz.proofs.Steps.{traverse-refused, traverse-steps}
 use Rattle.ctz.proofs.visit.ctz_traverse.Statement.{statement}
 use Rattle.ctz.proofs.visit.ctz_traverse.Tie as tie
-use Rattle.layout.specs.inner.Served.{geometry}
 
 good-card-requires : tie.Need-good-card-requires
 good-card-requires c κs = search needs

@@ -4,13 +4,13 @@ use mathlib.Core.Bool.{true}
 use native.Mathlib.Omega.{arith}
 use borrow.Author.Needs.{needs}
 use Rattle.layout.specs.Geometry.{cardFits}
+use Rattle.layout.specs.inner.Served.{geometry}
 use Rattle.layout.proofs.Makes.{made-fits, refused-fits}
 use Rattle.layout.proofs.Served.{served}
 use Rattle.ctz.proofs.Room.{fits-sized}
 use Rattle.ctz.proofs.Steps.{begin-refused, begin-large, begin-empty, begin-at}
 use Rattle.ctz.proofs.visit.ctz_visit.Statement.{statement}
 use Rattle.ctz.proofs.visit.ctz_visit.Tie as tie
-use Rattle.layout.specs.inner.Served.{geometry}
 
 new-requires : tie.Need-new-requires
 new-requires c κs = search needs

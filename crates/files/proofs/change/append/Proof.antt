@@ -5,10 +5,10 @@ use native.Mathlib.Omega.{arith}
 use borrow.Author.Needs.{needs}
 use lib.ListN.{length}
 use lib.Seq.{slice, sets}
+use Rattle.layout.specs.Numbers.{filesMax}
 use Rattle.files.proofs.Turns.{append-on, append-end}
 use Rattle.files.proofs.change.append.Statement.{statement}
 use Rattle.files.proofs.change.append.Tie as tie
-use Rattle.layout.specs.Numbers.{filesMax}
 
 abbrev Inv-loop : tie.InvT-loop
 Inv-loop from to t v₀ n₀ i₀ v n i =

@@ -5,12 +5,12 @@ use native.Mathlib.Omega.{arith}
 use borrow.Author.Needs.{needs}
 use lib.ListN.{length}
 use lib.Seq.{slice}
+use Rattle.layout.specs.Numbers.{filesMax}
+use Rattle.files.specs.inner.Facts.{slotFor}
 use Rattle.files.proofs.Laws.{slots-ok, count-ok}
 use Rattle.files.proofs.Turns.{place-here, place-on, place-end}
 use Rattle.files.proofs.change.place.Statement.{statement}
 use Rattle.files.proofs.change.place.Tie as tie
-use Rattle.layout.specs.Numbers.{filesMax}
-use Rattle.files.specs.inner.Facts.{slotFor}
 
 abbrev Inv-loop : tie.InvT-loop
 Inv-loop number t count i₀ i =

@@ -1,9 +1,9 @@
 -- `files::position::seek` meets its contract: the file, the held position, then the sum that whence asks for. Assumes nothing.
 use mathlib.Core.Path.{sym, _∙_}
 use native.Mathlib.Omega.{arith}
+use borrow.Author.Needs.{needs}
 use Rattle.files.proofs.Cases.{slot, seek-at, seek-far, seek-missing, seek-refused}
 use Rattle.files.proofs.Seeking.{whence-start, whence-held, whence-end, whence-other}
-use borrow.Author.Needs.{needs}
 use Rattle.files.proofs.position.seek.Statement.{statement}
 use Rattle.files.proofs.position.seek.Tie as tie
 

@@ -2,10 +2,10 @@
 use mathlib.Core.Path.{refl}
 use Prim.Native.Nat.{_+_, _-_}
 use native.Mathlib.Omega.{arith}
+use borrow.Author.Needs.{needs}
 use Rattle.device.proofs.Blanks.{blank-part}
 use Rattle.grow.proofs.Rooms.{room-of, source-of, gives}
 use Rattle.grow.proofs.Links.{attempt-empty, attempt-damaged, attempt-spoiled, attempt-copied, attempt-pointers, used-fits, index-fits, next-fits}
-use borrow.Author.Needs.{needs}
 use Rattle.grow.proofs.block.link.Statement.{statement}
 use Rattle.grow.proofs.block.link.Tie as tie
 

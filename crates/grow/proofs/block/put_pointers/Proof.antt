@@ -4,13 +4,13 @@ use Prim.Native.Nat.{_*_, _-_, _≤_}
 use native.Mathlib.Omega.{arith}
 use borrow.Author.Needs.{needs}
 use lib.ListN.{length}
+use Rattle.device.specs.inner.Bounds.{Blank}
 use Rattle.device.proofs.Blanks.{blank-part}
+use Rattle.grow.specs.inner.Attempt.{putPointers}
 use Rattle.grow.proofs.Rooms.{room-of, asked-of, gives}
 use Rattle.grow.proofs.Pointers.{put-start, words-blank, put-done, put-damaged, put-spoiled, put-turn}
 use Rattle.grow.proofs.block.put_pointers.Statement.{statement}
 use Rattle.grow.proofs.block.put_pointers.Tie as tie
-use Rattle.device.specs.inner.Bounds.{Blank}
-use Rattle.grow.specs.inner.Attempt.{putPointers}
 
 abbrev Inv-loop : tie.InvT-loop
 Inv-loop image₀ health b n k count head cur₀ x₀ image cur x = (x ≤ count) × (length image ≡ length image₀)

@@ -1,8 +1,8 @@
 -- `grow::block::try_block` meets its contract: a refused erase ends the try, else the link's answer is its own. Assumes nothing.
+use borrow.Author.Needs.{needs}
 use Rattle.device.proofs.Blanks.{blank-erased}
 use Rattle.grow.proofs.Rooms.{block-of, gives}
 use Rattle.grow.proofs.Tries.{try-kept, try-wiped}
-use borrow.Author.Needs.{needs}
 use Rattle.grow.proofs.block.try_block.Statement.{statement}
 use Rattle.grow.proofs.block.try_block.Tie as tie
 

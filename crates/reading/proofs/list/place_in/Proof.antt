@@ -1,15 +1,15 @@
 -- `place_in` answers what `stretchIn` gives, by the answer of the one lookup.
 use mathlib.Core.Path.{_≡_, sym, _∙_}
 use native.Mathlib.Omega.{arith}
-use borrow.Author.Needs.{needs}
 use denote.Ref.{now}
-use Rattle.ctz.specs.Lookup.{walkTo}
+use borrow.Author.Needs.{needs}
+use Rattle.layout.specs.inner.Served.{blockList}
+use Rattle.card.specs.inner.Cards.{cardWith}
 use Rattle.ctz.specs.declared.Found.the-variants.{At}
+use Rattle.ctz.specs.Lookup.{walkTo}
 use Rattle.reading.proofs.Inner.{place-past, place-found, place-part, Lies, lies}
 use Rattle.reading.proofs.list.place_in.Statement.{statement}
 use Rattle.reading.proofs.list.place_in.Tie as tie
-use Rattle.card.specs.inner.Cards.{cardWith}
-use Rattle.layout.specs.inner.Served.{blockList}
 
 returns : tie.Need-returns
 returns c = place-past _ _ _ _ _ _ (c .if1 .taken)

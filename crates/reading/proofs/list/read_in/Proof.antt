@@ -2,13 +2,13 @@
 use mathlib.Core.Path.{_≡_, ap, _∙_}
 use Prim.Native.Nat.{_-_, _<_, min}
 use native.Mathlib.Nat.{min-le-left, min-le-right}
-use borrow.Author.Tests.{not-true, not-false}
+use native.Mathlib.Omega.{arith}
 use denote.Ref.{now}
+use borrow.Author.Tests.{not-true, not-false}
+use borrow.Author.Needs.{needs}
 use lib.ListN.{length}
 use Rattle.copies.specs.inner.Copies.{Roomy}
 use Rattle.reading.proofs.Inner.{ranged, read-none, read-damaged, read-copied}
-use native.Mathlib.Omega.{arith}
-use borrow.Author.Needs.{needs}
 use Rattle.reading.proofs.list.read_in.Statement.{statement}
 use Rattle.reading.proofs.list.read_in.Tie as tie
 

@@ -1,7 +1,7 @@
 -- `blocks::extend` meets its contract: the part of the space that is lent is the card's image. Assumes nothing.
 use mathlib.Core.Path.{sym}
-use lib.Seq.{length-take-le}
 use borrow.Author.Needs.{needs}
+use lib.Seq.{length-take-le}
 use Rattle.replay.proofs.Allotted.{front, too-long, copied}
 use Rattle.replay.proofs.blocks.extend.Statement.{statement}
 use Rattle.replay.proofs.blocks.extend.Tie as tie

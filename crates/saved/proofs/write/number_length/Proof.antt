@@ -3,10 +3,10 @@ use mathlib.Core.Path.{_≡_, refl}
 use Prim.Native.Nat.{_+_, _≤_}
 use native.Mathlib.Omega.{arith}
 use lib.ListN.{length}
+use Rattle.saved.specs.Save.{groups}
 use Rattle.saved.proofs.Numbers.{length-last, length-more, counted-five}
 use Rattle.saved.proofs.write.number_length.Statement.{statement}
 use Rattle.saved.proofs.write.number_length.Tie as tie
-use Rattle.saved.specs.Save.{groups}
 
 abbrev Inv-loop : tie.InvT-loop
 Inv-loop n m₀ k₀ m k = (k + length (groups m) ≡ 1 + length (groups n)) × (k + m ≤ 1 + n)

@@ -5,12 +5,12 @@ use native.Mathlib.Omega.{arith}
 use borrow.Author.Needs.{needs}
 use lib.ListN.{length}
 use lib.Seq.{slice}
+use Rattle.layout.specs.Numbers.{filesMax}
 use Rattle.files.proofs.Laws.{slots-ok, count-ok}
 use Rattle.saved.specs.Save.{filesBytes}
 use Rattle.saved.proofs.Stores.{length-turn, bytes-end, save-length}
 use Rattle.saved.proofs.write.saved_length.Statement.{statement}
 use Rattle.saved.proofs.write.saved_length.Tie as tie
-use Rattle.layout.specs.Numbers.{filesMax}
 
 abbrev Inv-loop : tie.InvT-loop
 Inv-loop t count n₀ i₀ n i =

@@ -4,11 +4,11 @@ use Prim.Native.Nat.{_+_, _≤_}
 use native.Mathlib.Omega.{arith}
 use lib.ListN.{length, length-set}
 use lib.Seq.{sets}
+use Rattle.saved.specs.Save.{groups}
 use Rattle.saved.proofs.Numbers.{length-last, length-more}
 use Rattle.saved.proofs.Stores.{store-last, store-more}
 use Rattle.saved.proofs.write.write_number.Statement.{statement}
 use Rattle.saved.proofs.write.write_number.Tie as tie
-use Rattle.saved.specs.Save.{groups}
 
 abbrev Inv-loop : tie.InvT-loop
 Inv-loop buffer₀ at n m₀ i₀ buffer m i =

@@ -5,12 +5,12 @@ use native.Mathlib.Omega.{arith}
 use borrow.Author.Needs.{needs}
 use lib.ListN.{length}
 use lib.Seq.{slice, sets}
+use Rattle.layout.specs.Numbers.{filesMax}
 use Rattle.files.proofs.Laws.{slots-ok, count-ok}
 use Rattle.saved.specs.Save.{filesBytes}
 use Rattle.saved.proofs.Stores.{length-turn, files-turn, save-length, save-end}
 use Rattle.saved.proofs.write.write_table.Statement.{statement}
 use Rattle.saved.proofs.write.write_table.Tie as tie
-use Rattle.layout.specs.Numbers.{filesMax}
 
 abbrev Inv-loop : tie.InvT-loop
 Inv-loop buffer₀ t count at₀ i₀ buffer at i =

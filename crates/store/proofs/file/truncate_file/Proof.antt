@@ -1,9 +1,9 @@
 -- `store::file::truncate_file` meets its contract: test by test; a growth's zeros are a gap up to the new size. Assumes nothing.
 use mathlib.Core.Path.{sym}
 use native.Mathlib.Omega.{arith}
+use borrow.Author.Needs.{needs}
 use Rattle.store.proofs.Tested.{putting, shrinking}
 use Rattle.store.proofs.Files.{gives, finishes, shrinks-keeps, cut-far, cut-shrinks, cut-same, cut-grows}
-use borrow.Author.Needs.{needs}
 use Rattle.store.proofs.file.truncate_file.Statement.{statement}
 use Rattle.store.proofs.file.truncate_file.Tie as tie
 

@@ -1,8 +1,8 @@
 -- `store::file::write_file` meets its contract: test by test, then the write and the change of the table. Assumes nothing.
 use native.Mathlib.Omega.{arith}
+use borrow.Author.Needs.{needs}
 use Rattle.store.proofs.Tested.{putting}
 use Rattle.store.proofs.Files.{gives, finishes, file-far, file-large, file-none, file-some}
-use borrow.Author.Needs.{needs}
 use Rattle.store.proofs.file.write_file.Statement.{statement}
 use Rattle.store.proofs.file.write_file.Tie as tie
 

@@ -1,7 +1,7 @@
 -- `store::steps::finish` meets its contract, case by case. Assumes nothing.
 use mathlib.Core.Path.{_∙_}
-use Rattle.store.proofs.Files.{finish-written, finish-full, finish-lost}
 use borrow.Author.Needs.{needs}
+use Rattle.store.proofs.Files.{finish-written, finish-full, finish-lost}
 use Rattle.store.proofs.steps.finish.Statement.{statement}
 use Rattle.store.proofs.steps.finish.Tie as tie
 

@@ -1,7 +1,7 @@
 -- `store::steps::shrink` meets its contract: by the lookup of the last byte that is kept. Assumes nothing.
 use mathlib.Core.Path.{_∙_}
-use Rattle.store.proofs.Files.{shrinks-empty, shrinks-found, shrinks-damaged, shrinks-refused}
 use borrow.Author.Needs.{needs}
+use Rattle.store.proofs.Files.{shrinks-empty, shrinks-found, shrinks-damaged, shrinks-refused}
 use Rattle.store.proofs.steps.shrink.Statement.{statement}
 use Rattle.store.proofs.steps.shrink.Tie as tie
 

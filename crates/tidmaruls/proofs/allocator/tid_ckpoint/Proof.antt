@@ -1,7 +1,7 @@
 -- `tidmaruls::allocator::tid_ckpoint` meets its contract: what the inner call ensures, told. Assumes nothing.
 use mathlib.Core.Path.{ap, _∙_}
-use Rattle.told_windows.specs.Windows.{repliedTold}
 use borrow.Author.Needs.{needs}
+use Rattle.told_windows.specs.Windows.{repliedTold}
 use Rattle.tidmaruls.proofs.allocator.tid_ckpoint.Statement.{statement}
 use Rattle.tidmaruls.proofs.allocator.tid_ckpoint.Tie as tie
 

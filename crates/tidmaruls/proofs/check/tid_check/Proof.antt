@@ -1,7 +1,7 @@
 -- `tidmaruls::check::tid_check` meets its contract: what the inner call ensures, told. Assumes nothing.
 use mathlib.Core.Path.{ap, _∙_}
-use Rattle.told_lists.specs.Lists.{checkedTold}
 use borrow.Author.Needs.{needs}
+use Rattle.told_lists.specs.Lists.{checkedTold}
 use Rattle.tidmaruls.proofs.check.tid_check.Statement.{statement}
 use Rattle.tidmaruls.proofs.check.tid_check.Tie as tie
 

@@ -1,7 +1,7 @@
 -- `tidmaruls::contents::tid_stretch` meets its contract: what the inner call ensures, told. Assumes nothing.
 use mathlib.Core.Path.{ap, _∙_}
-use Rattle.told_files.specs.Contents.{placedTold}
 use borrow.Author.Needs.{needs}
+use Rattle.told_files.specs.Contents.{placedTold}
 use Rattle.tidmaruls.proofs.contents.tid_stretch.Statement.{statement}
 use Rattle.tidmaruls.proofs.contents.tid_stretch.Tie as tie
 

@@ -1,7 +1,7 @@
 -- `tidmaruls::lookups::tid_find` meets its contract: what the inner call ensures, told. Assumes nothing.
 use mathlib.Core.Path.{ap, _∙_}
-use Rattle.told_lists.specs.Lists.{foundTold}
 use borrow.Author.Needs.{needs}
+use Rattle.told_lists.specs.Lists.{foundTold}
 use Rattle.tidmaruls.proofs.lookups.tid_find.Statement.{statement}
 use Rattle.tidmaruls.proofs.lookups.tid_find.Tie as tie
 

@@ -1,7 +1,7 @@
 -- `tidmaruls::lookups::tid_index` meets its contract: what the inner call ensures, told. Assumes nothing.
 use mathlib.Core.Path.{ap, _∙_}
-use Rattle.told_lists.specs.Lists.{placeTold}
 use borrow.Author.Needs.{needs}
+use Rattle.told_lists.specs.Lists.{placeTold}
 use Rattle.tidmaruls.proofs.lookups.tid_index.Statement.{statement}
 use Rattle.tidmaruls.proofs.lookups.tid_index.Tie as tie
 

@@ -1,7 +1,7 @@
 -- `tidmaruls::tables::tid_create` meets its contract: what the inner call ensures, told. Assumes nothing.
 use mathlib.Core.Path.{ap, _∙_}
-use Rattle.told_tables.specs.Tables.{changedTold}
 use borrow.Author.Needs.{needs}
+use Rattle.told_tables.specs.Tables.{changedTold}
 use Rattle.tidmaruls.proofs.tables.tid_create.Statement.{statement}
 use Rattle.tidmaruls.proofs.tables.tid_create.Tie as tie
 

@@ -1,7 +1,7 @@
 -- `tidmaruls::tables::tid_load` meets its contract: what the inner call ensures, told. Assumes nothing.
 use mathlib.Core.Path.{ap, _∙_}
-use Rattle.told_tables.specs.Tables.{loadedTold}
 use borrow.Author.Needs.{needs}
+use Rattle.told_tables.specs.Tables.{loadedTold}
 use Rattle.tidmaruls.proofs.tables.tid_load.Statement.{statement}
 use Rattle.tidmaruls.proofs.tables.tid_load.Tie as tie
 

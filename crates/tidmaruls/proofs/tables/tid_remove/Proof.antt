@@ -1,7 +1,7 @@
 -- `tidmaruls::tables::tid_remove` meets its contract: what the inner call ensures, told. Assumes nothing.
 use mathlib.Core.Path.{ap, _∙_}
-use Rattle.told_tables.specs.Tables.{changedTold}
 use borrow.Author.Needs.{needs}
+use Rattle.told_tables.specs.Tables.{changedTold}
 use Rattle.tidmaruls.proofs.tables.tid_remove.Statement.{statement}
 use Rattle.tidmaruls.proofs.tables.tid_remove.Tie as tie
 

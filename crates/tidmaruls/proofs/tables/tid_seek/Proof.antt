@@ -1,8 +1,8 @@
 -- `tidmaruls::tables::tid_seek` meets its contract: offset and whence are read back from their bits, and what the inner call ensures, told. Assumes nothing.
-use mir.Facts.{toZ-ofZ}
 use mathlib.Core.Path.{ap, _∙_}
-use Rattle.told_tables.specs.Tables.{soughtTold}
 use borrow.Author.Needs.{needs}
+use mir.Facts.{toZ-ofZ}
+use Rattle.told_tables.specs.Tables.{soughtTold}
 use Rattle.tidmaruls.proofs.tables.tid_seek.Statement.{statement}
 use Rattle.tidmaruls.proofs.tables.tid_seek.Tie as tie
 

@@ -1,7 +1,7 @@
 -- `tidmaruls::tables::tid_size` meets its contract: what the inner call ensures, told. Assumes nothing.
 use mathlib.Core.Path.{ap, _∙_}
-use Rattle.told_tables.specs.Tables.{sizedTold}
 use borrow.Author.Needs.{needs}
+use Rattle.told_tables.specs.Tables.{sizedTold}
 use Rattle.tidmaruls.proofs.tables.tid_size.Statement.{statement}
 use Rattle.tidmaruls.proofs.tables.tid_size.Tie as tie
 

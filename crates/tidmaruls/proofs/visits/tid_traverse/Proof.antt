@@ -1,7 +1,7 @@
 -- `tidmaruls::visits::tid_traverse` meets its contract: the place as it is asked, and what the inner call ensures, told. Assumes nothing.
 use mathlib.Core.Path.{ap, _∙_}
-use Rattle.told_lists.specs.Lists.{stepTold}
 use borrow.Author.Needs.{needs}
+use Rattle.told_lists.specs.Lists.{stepTold}
 use Rattle.tidmaruls.proofs.visits.tid_traverse.Statement.{statement}
 use Rattle.tidmaruls.proofs.visits.tid_traverse.Tie as tie
 

@@ -1,7 +1,7 @@
 -- `tidmaruls::visits::tid_visit` meets its contract: what the inner call ensures, told. Assumes nothing.
 use mathlib.Core.Path.{ap, _∙_}
-use Rattle.told_lists.specs.Lists.{begunTold}
 use borrow.Author.Needs.{needs}
+use Rattle.told_lists.specs.Lists.{begunTold}
 use Rattle.tidmaruls.proofs.visits.tid_visit.Statement.{statement}
 use Rattle.tidmaruls.proofs.visits.tid_visit.Tie as tie
 

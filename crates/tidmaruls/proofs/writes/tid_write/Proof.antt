@@ -1,7 +1,7 @@
 -- `tidmaruls::writes::tid_write` meets its contract: what the inner call ensures, told, and the image as that call left it. Assumes nothing.
 use mathlib.Core.Path.{ap, _∙_}
-use Rattle.told_files.specs.Contents.{storedTold}
 use borrow.Author.Needs.{needs}
+use Rattle.told_files.specs.Contents.{storedTold}
 use Rattle.tidmaruls.proofs.writes.tid_write.Statement.{statement}
 use Rattle.tidmaruls.proofs.writes.tid_write.Tie as tie
 

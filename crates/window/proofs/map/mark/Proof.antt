@@ -1,7 +1,7 @@
 -- `window::map::mark` meets its contract: one byte changes where the offset is below the size. Assumes nothing.
 use borrow.Author.Tests.{lt-ltb, le-ltb}
-use Rattle.window.specs.Scan.{markMap}
 use borrow.Author.Needs.{needs}
+use Rattle.window.specs.Scan.{markMap}
 use Rattle.window.proofs.map.mark.Statement.{statement}
 use Rattle.window.proofs.map.mark.Tie as tie
 

@@ -1,9 +1,9 @@
 -- `window::map::next_free` meets its contract: what is left of the search answers the whole search. Assumes nothing.
 use mathlib.Core.Path.{_≡_, _∙_, sym}
 use Prim.Native.Nat.{_-_}
+use borrow.Author.Needs.{needs}
 use Rattle.window.specs.Allocate.{skip}
 use Rattle.window.proofs.Search.{free-marked, free-clear, free-end}
-use borrow.Author.Needs.{needs}
 use Rattle.window.proofs.map.next_free.Statement.{statement}
 use Rattle.window.proofs.map.next_free.Tie as tie
 

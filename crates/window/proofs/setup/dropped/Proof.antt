@@ -1,8 +1,8 @@
 -- `window::setup::dropped` meets its contract: each test that led to a return settles the reply. Assumes nothing.
 use mathlib.Core.Path.{sym, _∙_}
+use borrow.Author.Needs.{needs}
 use Rattle.window.specs.Value.{droppedReply}
 use Rattle.window.proofs.Valid.{sizes}
-use borrow.Author.Needs.{needs}
 use Rattle.window.proofs.setup.dropped.Statement.{statement}
 use Rattle.window.proofs.setup.dropped.Tie as tie
 

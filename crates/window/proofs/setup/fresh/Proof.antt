@@ -1,8 +1,8 @@
 -- `window::setup::fresh` meets its contract: each test that led to a return settles the reply. Assumes nothing.
 use mathlib.Core.Path.{sym, _∙_}
 use borrow.Author.Tests.{lt-ltb, le-ltb}
-use Rattle.window.specs.Value.{freshReply}
 use borrow.Author.Needs.{needs}
+use Rattle.window.specs.Value.{freshReply}
 use Rattle.window.proofs.setup.fresh.Statement.{statement}
 use Rattle.window.proofs.setup.fresh.Tie as tie
 

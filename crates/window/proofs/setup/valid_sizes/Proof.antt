@@ -1,7 +1,7 @@
 -- `window::setup::valid_sizes` meets its contract: `Geometry::new` tells whether the numbers fit. Assumes nothing.
 use mathlib.Core.Path.{sym, _∙_}
-use Rattle.window.proofs.Valid.{sizes-made, sizes-refused}
 use borrow.Author.Needs.{needs}
+use Rattle.window.proofs.Valid.{sizes-made, sizes-refused}
 use Rattle.window.proofs.setup.valid_sizes.Statement.{statement}
 use Rattle.window.proofs.setup.valid_sizes.Tie as tie
 
