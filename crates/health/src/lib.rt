@@ -1,4 +1,6 @@
 // The health bytes of a card, one a block: whether they are valid, and what a block refuses by its byte.
+#![tactic(auto)]
+
 ghost use Rattle.std.specs.Prelude.{◌≡◌, ◌+◌, ◌*◌, ◌≤◌, ◌<◌, leb, length, drop};
 ghost use Rattle.health.specs.Health.{each_valid, health_ok, refuses_erase, refuses_program};
 ghost use Rattle.health.specs.inner.Bounds.{or_four, NoneAbove};

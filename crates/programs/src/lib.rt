@@ -1,4 +1,6 @@
 // The programs of the device: bytes of a slice, zeros, a word, or bytes of another block go to one block, whose health byte decides whether it is done.
+#![tactic(auto)]
+
 ghost use Rattle.std.specs.Prelude.{◌+◌, ◌*◌, ◌≤◌, length, take, drop, replicate};
 ghost use Rattle.span.specs.Words.{bytes32};
 ghost use Rattle.device.specs.inner.Steps.{program_of, ProgramGives};
