@@ -16,7 +16,7 @@ import sys
 WORD = r"[^\s(){}\[\],;.«»\":=`]+"
 HEAD = re.compile(r"^(\s*)((?:abbrev |unfoldable |pub )*)(" + WORD + r"(?: " + WORD + r")*) : (.*)$")
 USE = re.compile(r"^(?:pub )?(?:ghost )?use ([^\s{}]+?)(?:\.\{([^}]*)\})?(?: as (\S+?))?;?$")
-TOKEN = re.compile(r"[^\s(){}\[\],;.«»\"`:]+")
+TOKEN = re.compile(r"Rattle\.[^\s(){}\[\],;«»\"`:]+|[^\s(){}\[\],;.«»\"`:]+")
 
 # A lemma that would have its definition's name.
 LEMMAS = {
@@ -26,6 +26,12 @@ LEMMAS = {
     "read-from": "read_from_lem", "alloc_on": "alloc_on_lem", "extend-on": "extend_on_lem", "one-file": "one_file_lem", "each-valid": "each_valid_lem",
     "tally-from": "tally_from_lem", "up-to": "up_to_lem", "next-block": "next_block_lem", "visit-from": "visit_from_lem", "visit-held": "visit_held_lem",
     "ones-in": "ones_in_lem",
+}
+
+# Those of them that have an underscore already, as the kit's script made them, with the module that declares each: they are turned there and where they are imported from there.
+HOMES = {
+    "part_bytes": "reading.proofs.Plain", "first_head": "writes.proofs.Writes", "within_of": "writes.proofs.Widths", "offset_at": "writes.proofs.Widths",
+    "alloc_by": "windows.proofs.Alloc", "alloc_on": "replay.proofs.Allotted",
 }
 
 
@@ -63,31 +69,62 @@ def mapping(names):
     return turned
 
 
-def turn(text, turned, rust):
-    """The text with each token of `turned` respelled; in Rust source only within clauses and ghost items, which are the places where such names stand."""
+def at_home(name, path, text):
+    """Whether `name` means the lemma in this file: always, but for the names of HOMES."""
+    if name not in HOMES:
+        return True
+    home = HOMES[name]
+    if path.endswith("crates/" + home.replace(".", "/") + ".antt"):
+        return True
+    return any(name in [i.strip() for i in m.group(1).split(",")] for m in re.finditer(r"^use Rattle\." + re.escape(home) + r"\.\{([^}]*)\}", text, re.M))
+
+
+def turn(path, text, turned):
+    """The text with each name respelled: in Rust source only within clauses, ghost items and quoted names of comments, in comments only quoted names."""
+    rust = path.endswith(".rt")
+    here = {n: to for n, to in turned.items() if at_home(n, path, text)}
+    ghosts = clauses(text) if rust else None
+    aliases = {m.group(2): m.group(1) for m in re.finditer(r"^use (\S+) as (\S+)$", text, re.M)}
     out, pos = [], 0
     for m in TOKEN.finditer(text):
         word = m.group(0)
         bare = word.rstrip("?!")
-        if bare in turned and not (rust and not ghost_at(text, m.start())):
-            out.append(text[pos:m.start()] + turned[bare] + word[len(bare):])
+        if text[m.start() - 1:m.start()] == "." and bare in LEMMAS:
+            root = re.search(r"([\w'-]+)\.$", text[:m.start()])
+            module = root and aliases.get(root.group(1))
+            if not module or (bare in HOMES and module != "Rattle." + HOMES[bare]):
+                continue
+            out.append(text[pos:m.start()] + LEMMAS[bare] + word[len(bare):])
+            pos = m.end()
+            continue
+        if bare in here and meant(text, m.start(), bare, rust, ghosts):
+            out.append(text[pos:m.start()] + here[bare] + word[len(bare):])
             pos = m.end()
     return "".join(out) + text[pos:]
 
 
-def ghost_at(text, at):
-    """Whether a place of Rust source is a comment, a ghost item or a clause. A clause's braces open on its first line."""
+def clauses(text):
+    """The runs of Rust source that are clauses, braces included."""
+    runs = []
+    for m in re.finditer(r"^ +(?:requires|ensures|ghost)\b[^{\n]*\{", text, re.M):
+        depth, at = 1, m.end()
+        while depth and at < len(text):
+            depth += {"{": 1, "}": -1}.get(text[at], 0)
+            at += 1
+        runs.append((m.start(), at))
+    return runs
+
+
+def meant(text, at, word, rust, ghosts):
+    """Whether a word at this place is a name of specs/ or proofs/. In a comment a word with capitals inside is one; another only between backquotes."""
     start = text.rfind("\n", 0, at) + 1
-    line = text[start:at].lstrip()
-    if line.startswith("//") or line.startswith("ghost "):
+    before = text[start:at]
+    comment = before.find("//" if rust else "--")
+    if comment >= 0:
+        return before.count("`", comment) % 2 == 1 or word.lower() != word
+    if not rust:
         return True
-    if line.startswith(("requires", "ensures", "ghost")):
-        return True
-    clause = max(text.rfind("\n" + k, 0, at) for k in ("    requires", "    ensures"))
-    if clause < 0:
-        return False
-    between = text[clause:at]
-    return between.count("{") > between.count("}")
+    return before.lstrip().startswith("ghost ") or any(a <= at < b for a, b in ghosts)
 
 
 def main():
@@ -112,7 +149,7 @@ def main():
     changed = 0
     for p in paths:
         text = open(p, encoding="utf-8").read()
-        new = turn(text, turned, p.endswith(".rt"))
+        new = turn(p, text, turned)
         if new != text:
             with open(p, "w", encoding="utf-8") as f:
                 f.write(new)

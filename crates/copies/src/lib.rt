@@ -48,7 +48,7 @@ fn copy_all(
     let first = layout::index_at(b, pos);
     let mut base = first;
     let mut i = first;
-    let mut offset = layout::offset_at_lem(b, pos, first);
+    let mut offset = layout::offset_at(b, pos, first);
     let mut p = pos;
     let mut left = count;
     let mut to = at;

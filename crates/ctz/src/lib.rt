@@ -75,7 +75,7 @@ pub fn find_in(b: u32, n: u32, image: &[u8], head: u32, size: u32, pos: u32) -> 
 {
     let top = layout::index_at(b, size - 1);
     let tgt = layout::index_at(b, pos);
-    let off = layout::offset_at_lem(b, pos, tgt);
+    let off = layout::offset_at(b, pos, tgt);
     walk_to(b, n, image, off, tgt, top, head)
 }
 

@@ -69,7 +69,7 @@ fn link(image: &mut [u8], health: &[u8], b: u32, n: u32, k: u32, head: u32, size
     }
     let last = size - 1;
     let index = layout::index_at(b, last);
-    let used = layout::offset_at_lem(b, last, index) + 1;
+    let used = layout::offset_at(b, last, index) + 1;
     if used == b {
         let count = layout::pointer_count(index + 1);
         return put_pointers(image, health, b, n, k, count, head);

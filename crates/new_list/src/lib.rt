@@ -112,7 +112,7 @@ pub fn put(
 {
     let v = window::alloc_ckpoint(w, n);
     let q = least(pos, e.size);
-    let first = first_head_lem(b, n, &image[..], e, q);
+    let first = first_head(b, n, &image[..], e, q);
     match first {
         Looked::Block(head) => {
             if tail_looked(b, n, &image[..], e, pos + data.len() as u32) {

@@ -23,7 +23,7 @@ fn block_start(b: u32, p: u32) -> u32
     ensures { result ≡ start b (index_at b p) }
 {
     let index = layout::index_at(b, p);
-    p - (layout::offset_at_lem(b, p, index) - 4 * layout::pointer_count(index))
+    p - (layout::offset_at(b, p, index) - 4 * layout::pointer_count(index))
 }
 
 // The block of a position of a file: the head, at its last byte.
@@ -106,7 +106,7 @@ pub fn tail_looked(b: u32, n: u32, image: &[u8], e: Entry, from: u32) -> bool
             }
         }
         let index = layout::index_at(b, p);
-        p += b - layout::offset_at_lem(b, p, index);
+        p += b - layout::offset_at(b, p, index);
     }
     true
 }
