@@ -29,7 +29,7 @@ index-at-requires : tie.Need-index-at-requires invariant-loop decreases-loop
 index-at-requires c κs = served c.before.before.requires.card.sized (search rules)
 
 loop-holds : tie.Need-loop-init invariant-loop decreases-loop
-loop-holds c = goes _ _ _ _ _ _ _ _ _ c.before.if1.false c.index_at_lem.ensures
+loop-holds c = goes _ _ _ _ _ _ _ _ _ c.before.if1.false c.index-at.ensures
 
 visit-step-requires : tie.Need-visit-step-requires invariant-loop decreases-loop
 visit-step-requires c κs = c.before.before.before.before.requires.card

@@ -60,7 +60,7 @@ further-from-requires c κs =
     let w = c.before.before in
     let e = w.before.before in
     record {
-      walks = rw w.before.index_at_lem.ensures (walks (the_card e.before.before) e.before.if2.false);
+      walks = rw w.before.index-at.ensures (walks (the_card e.before.before) e.before.if2.false);
       below = falls_below _ _ _ _ _ (sym w.walk-down.ensures ∙ c.enum_told.given.1);
     }
 
@@ -75,21 +75,21 @@ returns-5 c =
     let w = c.before.before.before in
     let e = w.before.before in
     c.further-from.ensures ∙ sym (then_sound _ _ _ w.walk-down.ensures c.before.enum_told.given.1)
-    ∙ check_list _ _ _ _ _ (good e.before.before) _ e.before.if2.false e.if3.false w.before.index_at_lem.ensures
+    ∙ check_list _ _ _ _ _ (good e.before.before) _ e.before.if2.false e.if3.false w.before.index-at.ensures
 
 returns-6 : tie.Need-returns-6
 returns-6 c =
     let w = c.before.before in
     let e = w.before.before in
     sym (then_unsound _ _ _ w.walk-down.ensures _ c.enum-told2.given.1)
-    ∙ check_list _ _ _ _ _ (good e.before.before) _ e.before.if2.false e.if3.false w.before.index_at_lem.ensures
+    ∙ check_list _ _ _ _ _ (good e.before.before) _ e.before.if2.false e.if3.false w.before.index-at.ensures
 
 returns-7 : tie.Need-returns-7
 returns-7 c =
     let w = c.before.before in
     let e = w.before.before in
     sym (then_refused _ _ _ w.walk-down.ensures c.enum-told3.given.1)
-    ∙ check_list _ _ _ _ _ (good e.before.before) _ e.before.if2.false e.if3.false w.before.index_at_lem.ensures
+    ∙ check_list _ _ _ _ _ (good e.before.before) _ e.before.if2.false e.if3.false w.before.index-at.ensures
 
 pub ctz_check_spec : {M : Type 1} → statement M
 ctz_check_spec =

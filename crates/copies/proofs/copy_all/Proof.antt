@@ -47,7 +47,7 @@ offset-at-requires c κs =
 loop-holds : tie.Need-loop-init invariant-loop decreases-loop
 loop-holds c =
     let i = c.before in
-    begins i.before.before.before.before.before.requires i.before.before.index_at_lem.ensures i.index-at3.ensures i.before.index-at2.ensures c.offset_at_lem.ensures
+    begins i.before.before.before.before.before.requires i.before.before.index-at.ensures i.index-at3.ensures i.before.index-at2.ensures c.offset_at.ensures
 
 turned-requires : tie.Need-turned-requires invariant-loop decreases-loop
 turned-requires c κs = turning c.before.before.loop.invariant c.before.loop-test.true

@@ -21,13 +21,13 @@ offset-at-requires c κs = search rules
 walk-to-requires : tie.Need-walk-to-requires
 walk-to-requires c κs =
     let s = c.before.before.before.before in
-    rw c.before.before.index_at_lem.ensures (walks s.requires.card s.requires.most)
+    rw c.before.before.index-at.ensures (walks s.requires.card s.requires.most)
 
 returns : tie.Need-returns
 returns c =
     let o = c.before in
     c.walk-to.ensures
-    ∙ walk_is _ _ _ _ _ _ _ _ _ o.before.before.index_at_lem.ensures o.before.index-at2.ensures o.offset_at_lem.ensures
+    ∙ walk_is _ _ _ _ _ _ _ _ _ o.before.before.index-at.ensures o.before.index-at2.ensures o.offset_at.ensures
 
 pub find_in_spec : {M : Type 1} → statement M
 find_in_spec =

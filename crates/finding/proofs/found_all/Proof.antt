@@ -34,7 +34,7 @@ add-least : tie.Need-overflow-add-least
 add-least c =
     let i = c in
     let s = i.before.before.before.before in
-    let l = indexed s.requires.run s.requires.some i.before.before.index_at_lem.ensures i.index-at3.ensures in
+    let l = indexed s.requires.run s.requires.some i.before.before.index-at.ensures i.index-at3.ensures in
     omega (arith, l.below, l.short)
 
 least-requires : tie.Need-least-requires
@@ -44,7 +44,7 @@ find-run-requires : tie.Need-find-run-requires
 find-run-requires c κs =
     let i = c.before.before in
     let s = i.before.before.before.before in
-    let l = indexed s.requires.run s.requires.some i.before.before.index_at_lem.ensures i.index-at3.ensures in
+    let l = indexed s.requires.run s.requires.some i.before.before.index-at.ensures i.index-at3.ensures in
     let m = min-le_left (i.index-at3.result - i.before.index-at2.result + 1) 1024 in
     let k = min-le_right (i.index-at3.result - i.before.index-at2.result + 1) 1024 in
     record {
@@ -58,7 +58,7 @@ returns : tie.Need-returns
 returns c =
     let i = c.before.before.before.before in
     let s = i.before.before.before.before in
-    answered_lost s.args.image.now s.requires i.before.before.index_at_lem.ensures i.before.index-at2.ensures i.index-at3.ensures
+    answered_lost s.args.image.now s.requires i.before.before.index-at.ensures i.before.index-at2.ensures i.index-at3.ensures
     c.before.before.before.least.ensures _ c.before.find-run.ensures (not-true _ c.if1.true)
 
 sub-if2 : tie.Need-overflow-sub-if2
@@ -71,7 +71,7 @@ returns-2 : tie.Need-returns-2
 returns-2 c =
     let i = c.before.before.before.before.before in
     let s = i.before.before.before.before in
-    answered_short s.args.image.now s.requires i.before.before.index_at_lem.ensures i.before.index-at2.ensures i.index-at3.ensures
+    answered_short s.args.image.now s.requires i.before.before.index-at.ensures i.before.index-at2.ensures i.index-at3.ensures
     c.before.before.before.before.least.ensures _ c.before.before.find-run.ensures (not-false _ c.before.if1.false) c.if2.true
 
 add-found-from : tie.Need-overflow-add-found-from
@@ -81,13 +81,13 @@ found-from-requires : tie.Need-found-from-requires
 found-from-requires c κs =
     let i = c.before.before.before.before.before in
     let s = i.before.before.before.before in
-    indexed s.requires.run s.requires.some i.before.before.index_at_lem.ensures i.index-at3.ensures
+    indexed s.requires.run s.requires.some i.before.before.index-at.ensures i.index-at3.ensures
 
 returns-3 : tie.Need-returns-3
 returns-3 c =
     let i = c.before.before.before.before.before.before in
     let s = i.before.before.before.before in
-    answered_on s.args.image.now s.requires i.before.before.index_at_lem.ensures i.before.index-at2.ensures i.index-at3.ensures
+    answered_on s.args.image.now s.requires i.before.before.index-at.ensures i.before.index-at2.ensures i.index-at3.ensures
     c.before.before.before.before.before.least.ensures _ c.before.before.before.find-run.ensures _ (not-false _ c.before.before.if1.false) c.before.if2.false c.found_from_lem.ensures
 
 pub found_all_spec : {M : Type 1} → statement M

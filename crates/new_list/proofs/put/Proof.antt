@@ -44,7 +44,7 @@ returns c =
     let t = o.before.before.before in
     let f = t.before.before.before.before.before in
     let k = f.before.before.before in
-    put_goes k.before.before.before.before.requires k.alloc-ckpoint.ensures f.before.before.least.ensures f.first_head_lem.ensures
+    put_goes k.before.before.before.before.requires k.alloc-ckpoint.ensures f.before.before.least.ensures f.first_head.ensures
     t.before.before.before.first.given.1 t.tail-looked.ensures o.before.before.if1.true o.write-on.ensures
 
 ended-requires : tie.Need-ended-requires
@@ -65,7 +65,7 @@ returns-2 c =
     let f = t.before.before.before.before.before in
     let k = f.before.before.before in
     wrote_as c.ended.ensures (put_tailless k.before.before.before.before.requires k.alloc-ckpoint.ensures f.before.before.least.ensures
-    f.first_head_lem.ensures t.before.before.before.first.given.1 t.tail-looked.ensures c.before.if1.false)
+    f.first_head.ensures t.before.before.before.first.given.1 t.tail-looked.ensures c.before.if1.false)
 
 same-length-3 : tie.Need-same-length-3
 same-length-3 c = search rules
@@ -75,7 +75,7 @@ returns-3 c =
     let f = c.before.before.before in
     let k = f.before.before.before in
     wrote_as c.ended2.ensures (put_lost k.before.before.before.before.requires k.alloc-ckpoint.ensures f.before.before.least.ensures
-    f.first_head_lem.ensures c.before.enum_told.given.1)
+    f.first_head.ensures c.before.enum_told.given.1)
 
 pub put_spec : {M : Type 1} → statement M
 put_spec =

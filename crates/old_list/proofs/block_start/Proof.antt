@@ -23,10 +23,10 @@ mul-result c =
     omega (
       arith,
       c.pointer-count.ensures,
-      ap pointers c.before.before.index_at_lem.ensures,
+      ap pointers c.before.before.index-at.ensures,
       offset_past s.args.b
           s.args.p,
-      c.before.offset_at_lem.ensures,
+      c.before.offset_at.ensures,
     )
 
 sub-result : tie.Need-overflow-sub-result
@@ -35,10 +35,10 @@ sub-result c =
     omega (
       arith,
       c.pointer-count.ensures,
-      ap pointers c.before.before.index_at_lem.ensures,
+      ap pointers c.before.before.index-at.ensures,
       offset_past s.args.b
           s.args.p,
-      c.before.offset_at_lem.ensures,
+      c.before.offset_at.ensures,
     )
 
 sub-result-2 : tie.Need-overflow-sub-result-2
@@ -47,15 +47,15 @@ sub-result-2 c =
     omega (
       arith,
       c.pointer-count.ensures,
-      ap pointers c.before.before.index_at_lem.ensures,
+      ap pointers c.before.before.index-at.ensures,
       offset_of s.args.b
           s.args.p _ refl,
-      c.before.offset_at_lem.ensures,
+      c.before.offset_at.ensures,
     )
 
 returns : tie.Need-returns
 returns c =
-    rw c.pointer-count.ensures (start_back c.before.before.before.requires _ _ c.before.before.index_at_lem.ensures c.before.offset_at_lem.ensures)
+    rw c.pointer-count.ensures (start_back c.before.before.before.requires _ _ c.before.before.index-at.ensures c.before.offset_at.ensures)
 
 pub block_start_spec : {M : Type 1} → statement M
 block_start_spec =

@@ -1,4 +1,4 @@
--- `old_list::first_head_lem` meets its contract: by where q lies, the block of byte q - 1 is the last one that is looked for. Assumes nothing.
+-- `old_list::first_head` meets its contract: by where q lies, the block of byte q - 1 is the last one that is looked for. Assumes nothing.
 use mathlib.Core.Path.{sym, ◌∙◌}
 use mathlib.Core.Logic.{⊎_elim}
 use native.Mathlib.Omega.{arith}
@@ -7,8 +7,8 @@ use Rattle.layout.proofs.Served.{served}
 use Rattle.old_list.specs.inner.Lookups.{look_in}
 use Rattle.old_list.proofs.Looks.{look_same, told_block, told_lost}
 use Rattle.old_list.proofs.Heads.{head_none, head_lost, head_inside, head_border, head_first}
-use Rattle.old_list.proofs.first_head_lem.Statement.{statement}
-use Rattle.old_list.proofs.first_head_lem.Tie as tie
+use Rattle.old_list.proofs.first_head.Statement.{statement}
+use Rattle.old_list.proofs.first_head.Tie as tie
 
 returns : tie.Need-returns
 returns c =

@@ -51,7 +51,7 @@ offset-at-requires c κs =
     record {
       served = served s.requires.0.card.sized
           (omega (arith, c.before.before.before.before.loop-test.true, s.requires.0.most));
-      index = c.index_at_lem.ensures;
+      index = c.index-at.ensures;
     }
 
 sub-p : tie.Need-overflow-sub-p invariant-loop decreases-loop
@@ -59,7 +59,7 @@ sub-p c =
     let s = c.before.before.before.before.before.before.before.before in
     omega (
       arith,
-      c.offset_at_lem.ensures,
+      c.offset_at.ensures,
       offset_inside s.args.b c.before.before.before.before.before.before.loop.p
           (index_in (served s.requires.0.card.sized (omega (arith, c.before.before.before.before.before.loop-test.true, s.requires.0.most)))),
     )
@@ -67,7 +67,7 @@ sub-p c =
 add-p : tie.Need-overflow-add-p invariant-loop decreases-loop
 add-p c =
     let s = c.before.before.before.before.before.before.before.before in
-    omega (arith, c.offset_at_lem.ensures, c.before.before.before.before.before.loop-test.true, s.requires.0.most, s.requires.0.card.high)
+    omega (arith, c.offset_at.ensures, c.before.before.before.before.before.loop-test.true, s.requires.0.most, s.requires.0.card.high)
 
 loop-less : tie.Need-loop-smaller invariant-loop decreases-loop
 loop-less c =
@@ -75,7 +75,7 @@ loop-less c =
     omega (
       arith,
       c.before.before.before.before.before.loop-test.true,
-      c.offset_at_lem.ensures,
+      c.offset_at.ensures,
       offset_inside s.args.b
           c.before.before.before.before.before.before.loop.p (index_in
           (served s.requires.0.card.sized (omega (arith, c.before.before.before.before.before.loop-test.true, s.requires.0.most)))),
@@ -91,7 +91,7 @@ loop-again c =
     (λ r. look_same a.b a.n a.e a.image.now r c.before.before.before.before.before.before.loop.p)
     c.before.before.before.before.before.loop-test.true _ _ (told_block _ _
     (sym c.before.before.before.before.look.ensures ∙ c.before.before.enum_told.given.1))
-    (ap (λ (o : ℕ). c.before.before.before.before.before.before.loop.p + (a.b - o)) c.offset_at_lem.ensures)
+    (ap (λ (o : ℕ). c.before.before.before.before.before.before.loop.p + (a.b - o)) c.offset_at.ensures)
     (omega (arith, c.before.before.before.before.before.loop-test.true, s.requires.0.most, s.requires.0.card.high))
 
 returns-2 : tie.Need-returns-2 invariant-loop decreases-loop

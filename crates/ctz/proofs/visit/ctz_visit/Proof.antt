@@ -49,7 +49,7 @@ index-at-requires c κs =
 returns-4 : tie.Need-returns-4
 returns-4 c =
     let e = c.before in
-    begin_at _ _ _ _ (fits e.before.before) _ e.before.if1.false e.if2.false c.index_at_lem.ensures
+    begin_at _ _ _ _ (fits e.before.before) _ e.before.if1.false e.if2.false c.index-at.ensures
 
 pub ctz_visit_spec : {M : Type 1} → statement M
 ctz_visit_spec =

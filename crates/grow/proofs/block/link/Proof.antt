@@ -31,12 +31,12 @@ offset-at-requires c κs = search rules
 add-used : tie.Need-overflow-add-used
 add-used c =
     let s = c.before.before.before.before.before.before in
-    omega (arith, c.offset_at_lem.ensures, used_fits s.requires.0.card.sized (s.args.size - 1) (omega arith), s.requires.0.card.high)
+    omega (arith, c.offset_at.ensures, used_fits s.requires.0.card.sized (s.args.size - 1) (omega arith), s.requires.0.card.high)
 
 add-pointer-count : tie.Need-overflow-add-pointer-count
 add-pointer-count c =
     let s = c.before.before.before.before.before.before.before in
-    omega (arith, c.before.before.index_at_lem.ensures, index_fits s.requires.0.card.sized (s.args.size - 1) (omega arith))
+    omega (arith, c.before.before.index-at.ensures, index_fits s.requires.0.card.sized (s.args.size - 1) (omega arith))
 
 pointer-count-requires : tie.Need-pointer-count-requires
 pointer-count-requires c κs = search rules
@@ -44,8 +44,8 @@ pointer-count-requires c κs = search rules
 put-pointers-requires : tie.Need-put-pointers-requires
 put-pointers-requires c κs =
     let s = c.before.before.before.before.before.before.before.before.before in
-    let fits = next_fits s.requires.0.card.sized (s.args.size - 1) (omega arith) _ _ c.before.before.before.before.index_at_lem.ensures c.before.pointer-count.ensures
-    (omega (arith, c.before.before.before.offset_at_lem.ensures, c.before.before.if3.true)) in
+    let fits = next_fits s.requires.0.card.sized (s.args.size - 1) (omega arith) _ _ c.before.before.before.before.index-at.ensures c.before.pointer-count.ensures
+    (omega (arith, c.before.before.before.offset_at.ensures, c.before.before.if3.true)) in
     (s.requires.0, fits, blank_part _ _ (omega arith) (omega (arith, fits)) s.requires.2)
 
 same_length : tie.Need-same-length
@@ -56,14 +56,14 @@ returns-3 c =
     let s = c.before.before.before.before.before.before.before.before.before.before.before.before in
     let a = s.args in
     rw (attempt_pointers a.health.now a.b a.n a.k a.head a.size a.image.now (a.size - 1) (omega arith) _ _ (omega arith)
-    (omega (arith, c.before.before.before.before.before.before.offset_at_lem.ensures, c.before.before.before.before.before.if3.true)) c.before.before.before.before.before.before.before.index_at_lem.ensures c.before.before.before.before.pointer-count.ensures)
+    (omega (arith, c.before.before.before.before.before.before.offset_at.ensures, c.before.before.before.before.before.if3.true)) c.before.before.before.before.before.before.before.index-at.ensures c.before.before.before.before.pointer-count.ensures)
     c.before.before.put-pointers.ensures
 
 program-copy-requires : tie.Need-program-copy-requires
 program-copy-requires c κs =
     let s = c.before.before.before.before.before.before.before.before in
     let u = used_fits s.requires.0.card.sized (s.args.size - 1) (omega arith) in
-    let r = c.before.before.offset_at_lem.ensures in
+    let r = c.before.before.offset_at.ensures in
     (room_of _ _ _ s.requires.0 refl (omega arith), source_of _ _ _ s.requires.0 (omega arith) (omega arith), blank_part _ _ (omega arith) (omega arith) s.requires.2)
 
 enum_told : tie.Need-enum-told
@@ -80,7 +80,7 @@ returns-4 c =
     let s = c.before.before.before.before.before.before.before.before.before.before.before.before.before in
     let a = s.args in
     gives _ _
-    (attempt_copied a.health.now a.b a.n a.k a.head a.size a.image.now (a.size - 1) (omega arith) _ (omega arith) c.before.before.before.before.program-copy.ensures (omega (arith, c.before.before.before.before.before.before.before.offset_at_lem.ensures))
+    (attempt_copied a.health.now a.b a.n a.k a.head a.size a.image.now (a.size - 1) (omega arith) _ (omega arith) c.before.before.before.before.program-copy.ensures (omega (arith, c.before.before.before.before.before.before.before.offset_at.ensures))
     c.before.before.before.before.before.before.if3.false c.enum_told.given.1)
 
 same-length-3 : tie.Need-same-length-3
@@ -91,7 +91,7 @@ returns-5 c =
     let s = c.before.before.before.before.before.before.before.before.before.before.before.before.before in
     let a = s.args in
     gives _ _
-    (attempt_spoiled a.health.now a.b a.n a.k a.head a.size a.image.now (a.size - 1) (omega arith) (c.before.before.before.before.before.before.before.offset_at_lem.result + 1) (omega arith) c.before.before.before.before.program-copy.ensures c.enum-told2.given.1)
+    (attempt_spoiled a.health.now a.b a.n a.k a.head a.size a.image.now (a.size - 1) (omega arith) (c.before.before.before.before.before.before.before.offset_at.result + 1) (omega arith) c.before.before.before.before.program-copy.ensures c.enum-told2.given.1)
 
 pub link_spec : {M : Type 1} → statement M
 link_spec =

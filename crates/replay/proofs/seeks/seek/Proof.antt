@@ -45,7 +45,7 @@ returns c =
     seek_is _ _ _ _ _ _ _ _ _ _ _ _ _ e.before.before.before.word.ensures e.before.word2.ensures
     e.word3.ensures d.before.before.word4.ensures d.before.before.before.signed.type-inv
     d.before.before.before.signed.ensures d.before.signed2.type-inv d.before.signed2.ensures
-    e.before.before.one_file_lem.ensures d.seek.ensures c.before.before.before.sought-told.ensures
+    e.before.before.one-file.ensures d.seek.ensures c.before.before.before.sought-told.ensures
     (bare_is c.before.before.before.sought-told.result.code _ c.before.before.struct_told.given.0.1 c.before.bare.ensures)
     c.told.ensures
 
