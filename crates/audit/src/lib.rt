@@ -13,7 +13,7 @@ ghost use Rattle.audit.specs.inner.Bounds.{holder, CleanWalk, Holding};
 use layout::Geometry;
 
 // What is wrong with a list, with its index and pointer number.
-#[derive(Drop)]
+#[derive(Clone, Copy)]
 pub enum Fault {
     // On the pointer-0 walk: a number that is not below the block count, and the index that it should name.
     NotBelow { index: u32, pointer: u32 },
@@ -25,7 +25,7 @@ pub enum Fault {
     NotNull { index: u32, pointer: u32 },
 }
 
-#[derive(Drop)]
+#[derive(Clone, Copy)]
 pub enum Checked {
     Sound,
     Unsound { fault: Fault },

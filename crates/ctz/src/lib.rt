@@ -1,4 +1,6 @@
 // Block lists: lookup of a position, and the visit of a list's blocks.
+#![tactic(auto)]
+
 pub mod run;
 pub mod visit;
 
@@ -15,7 +17,7 @@ ghost use Rattle.ctz.specs.inner.Bounds.{Walks, LookupAsked};
 use layout::Geometry;
 
 // Where a position lies: its block, the offset in it, and how many pointers were followed to it.
-#[derive(Drop)]
+#[derive(Clone, Copy)]
 pub enum Found {
     At { block: u32, offset: u32, hops: u32 },
     // A block number that is not below the block count: -84.

@@ -9,7 +9,7 @@ use layout::{Geometry, Made};
 
 // The index to hand over next and its block number; and the number of the index below it, where that was read already.
 #[repr(C)]
-#[derive(Drop)]
+#[derive(Clone, Copy)]
 pub struct Visit {
     pub index: u32,
     pub block: u32,
@@ -18,7 +18,7 @@ pub struct Visit {
 }
 
 // What a visit begins with.
-#[derive(Drop)]
+#[derive(Clone, Copy)]
 pub enum Begun {
     // The list has no block.
     Empty,
@@ -28,7 +28,7 @@ pub enum Begun {
 }
 
 // One step: a number handed over, and the visit that goes on behind it.
-#[derive(Drop)]
+#[derive(Clone, Copy)]
 pub enum Step {
     // A block number that is not below the block count: -84.
     Damaged,

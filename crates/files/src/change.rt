@@ -10,7 +10,7 @@ use crate::{Entry, Found, Table, find};
 use layout::Geometry;
 
 // What became of a table, and the table.
-#[derive(Drop)]
+#[derive(Clone, Copy)]
 pub enum Change {
     Done,
     Missing,
@@ -19,7 +19,7 @@ pub enum Change {
     Refused,
 }
 
-#[derive(Drop)]
+#[derive(Clone, Copy)]
 pub struct Changed {
     pub answer: Change,
     pub table: Table,

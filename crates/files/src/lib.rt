@@ -9,7 +9,7 @@ use layout::Geometry;
 
 // A file: its number, its size, and the last block of its list.
 #[repr(C)]
-#[derive(Drop)]
+#[derive(Clone, Copy)]
 pub struct Entry {
     pub number: u32,
     pub size: u32,
@@ -18,7 +18,7 @@ pub struct Entry {
 
 // The files of a store, numbers rising; slots past the count are not looked at.
 #[repr(C)]
-#[derive(Drop)]
+#[derive(Clone, Copy)]
 pub struct Table {
     pub files: [Entry; Table::FILES],
     pub count: u32,
@@ -91,7 +91,7 @@ pub fn valid_table(t: Table) -> bool
 }
 
 // Where a file stands in the table.
-#[derive(Drop)]
+#[derive(Clone, Copy)]
 pub enum Found {
     At(u32),
     Missing,
@@ -127,7 +127,7 @@ pub fn find(t: Table, number: u32) -> Found
 }
 
 // The size of a file.
-#[derive(Drop)]
+#[derive(Clone, Copy)]
 pub enum Sized {
     Bytes(u32),
     Missing,

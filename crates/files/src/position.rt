@@ -6,7 +6,7 @@ use crate::{Found, Table, find};
 use layout::Geometry;
 
 // Where a seek leads.
-#[derive(Drop)]
+#[derive(Clone, Copy)]
 pub enum Sought {
     At(u32),
     Missing,

@@ -8,7 +8,7 @@ use crate::Growth;
 use device::{Erased, Programmed};
 
 // What a try with one block gives: the growth's answer, or that the block refused.
-#[derive(Drop)]
+#[derive(Clone, Copy)]
 pub enum Linked {
     Done(Growth),
     Spoiled,

@@ -13,7 +13,7 @@ use layout::Geometry;
 use window::Lookahead;
 
 // What a growth answers.
-#[derive(Drop)]
+#[derive(Clone, Copy)]
 pub enum Growth {
     // The new last block, and where in it the next byte goes.
     Grown { block: u32, offset: u32 },
@@ -25,7 +25,7 @@ pub enum Growth {
     Refused,
 }
 
-#[derive(Drop)]
+#[derive(Clone, Copy)]
 pub struct Grew {
     pub answer: Growth,
     pub window: Lookahead,

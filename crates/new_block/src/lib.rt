@@ -15,7 +15,7 @@ use numbers::{beyond, least};
 use old_list::{Looked, look};
 
 // What filling a new block gives: the size so far, that the block refused, or -84.
-#[derive(Drop)]
+#[derive(Clone, Copy)]
 pub enum Filled {
     Done(u32),
     Spoiled,

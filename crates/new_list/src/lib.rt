@@ -10,7 +10,7 @@ use old_list::{Looked, first_head, tail_looked};
 use window::Lookahead;
 
 // What a write gives, before the table changes.
-#[derive(Drop)]
+#[derive(Clone, Copy)]
 pub enum Writing {
     Written { head: u32, size: u32 },
     // -28.
@@ -19,7 +19,7 @@ pub enum Writing {
     Corrupt,
 }
 
-#[derive(Drop)]
+#[derive(Clone, Copy)]
 pub struct Wrote {
     pub answer: Writing,
     pub window: Lookahead,

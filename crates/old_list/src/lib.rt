@@ -11,7 +11,7 @@ use files::Entry;
 use layout::Geometry;
 
 // What a lookup in a file's list finds; lost: -84.
-#[derive(Drop)]
+#[derive(Clone, Copy)]
 pub enum Looked {
     Block(u32),
     Lost,

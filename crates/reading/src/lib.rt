@@ -9,7 +9,7 @@ use files::{Found, Table};
 use layout::Geometry;
 
 // What a read answers.
-#[derive(Drop)]
+#[derive(Clone, Copy)]
 pub enum Reading {
     Bytes { length: u32 },
     // -2.
@@ -21,7 +21,7 @@ pub enum Reading {
 }
 
 // Where a stretch lies in the image.
-#[derive(Drop)]
+#[derive(Clone, Copy)]
 pub enum Placed {
     Part { place: u32, length: u32 },
     // -2.
@@ -33,7 +33,7 @@ pub enum Placed {
 }
 
 // The list of the file that a call is about.
-#[derive(Drop)]
+#[derive(Clone, Copy)]
 enum Asked {
     File { head: u32, size: u32 },
     Missing,

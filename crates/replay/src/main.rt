@@ -8,7 +8,7 @@ mod seeks;
 use libc::STDOUT_FILENO;
 
 // How many records, from the first on, were answered as the oracle did, and where the next one stands.
-#[derive(Drop)]
+#[derive(Clone, Copy)]
 struct Outcome {
     equal: u32,
     at: usize,

@@ -11,20 +11,20 @@ use read::{NumberRead, damaged_load, read_files, read_number};
 use write::{saved_length, write_table};
 
 // What save answers: the length of the saved form.
-#[derive(Drop)]
+#[derive(Clone, Copy)]
 pub enum Saved {
     Bytes(u32),
     Refused,
 }
 
 // What load answers, beside the table.
-#[derive(Drop)]
+#[derive(Clone, Copy)]
 pub enum Loading {
     Done,
     Damaged,
 }
 
-#[derive(Drop)]
+#[derive(Clone, Copy)]
 pub struct Loaded {
     pub answer: Loading,
     pub table: Table,

@@ -9,7 +9,7 @@ use files::{Entry, Table};
 use layout::Geometry;
 
 // A number that was read, and the place after it.
-#[derive(Drop)]
+#[derive(Clone, Copy)]
 pub enum NumberRead {
     At { value: u32, next: usize },
     Damaged,
@@ -65,7 +65,7 @@ pub fn read_number(bytes: &[u8], at: usize, limit: u32) -> NumberRead
 }
 
 // A file that was read, and the place after it.
-#[derive(Drop)]
+#[derive(Clone, Copy)]
 enum EntryRead {
     At { entry: Entry, next: usize },
     Damaged,

@@ -12,7 +12,7 @@ use steps::{left, valid_store};
 use window::Lookahead;
 
 // What a write or truncate answers.
-#[derive(Drop)]
+#[derive(Clone, Copy)]
 pub enum Outcome {
     Done,
     // No such file: -2.
@@ -28,7 +28,7 @@ pub enum Outcome {
 }
 
 // The answer, with the window and the table after the call.
-#[derive(Drop)]
+#[derive(Clone, Copy)]
 pub struct Stored {
     pub answer: Outcome,
     pub window: Lookahead,

@@ -10,7 +10,7 @@ use window::Lookahead;
 
 // How many bytes were read.
 #[repr(C)]
-#[derive(Drop)]
+#[derive(Clone, Copy)]
 pub struct TidRead {
     pub code: i32,
     pub length: u32,
@@ -41,7 +41,7 @@ pub fn read_told(a: Reading) -> TidRead
 
 // A part of the image: its first byte and its length.
 #[repr(C)]
-#[derive(Drop)]
+#[derive(Clone, Copy)]
 pub struct TidStretch {
     pub code: i32,
     pub place: u32,
@@ -77,7 +77,7 @@ pub fn placed_told(p: Placed) -> TidStretch
 
 // Window and table after a call that changes a file.
 #[repr(C)]
-#[derive(Drop)]
+#[derive(Clone, Copy)]
 pub struct TidStore {
     pub code: i32,
     pub window: Lookahead,

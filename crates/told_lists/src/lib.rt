@@ -8,7 +8,7 @@ use ctz::visit::{Begun, Step, Visit};
 use layout::Place;
 
 #[repr(C)]
-#[derive(Drop)]
+#[derive(Clone, Copy)]
 pub struct TidIndex {
     pub code: i32,
     pub index: u32,
@@ -33,7 +33,7 @@ pub fn place_told(p: Place) -> TidIndex
 }
 
 #[repr(C)]
-#[derive(Drop)]
+#[derive(Clone, Copy)]
 pub struct TidFind {
     pub code: i32,
     pub block: u32,
@@ -72,7 +72,7 @@ pub fn found_told(f: Found) -> TidFind
 
 // A visit's place; `held` is 0 or not.
 #[repr(C)]
-#[derive(Drop)]
+#[derive(Clone, Copy)]
 pub struct TidPlace {
     pub index: u32,
     pub block: u32,
@@ -110,7 +110,7 @@ fn next_told(v: Visit) -> TidPlace
 
 // How a visit begins: `more` is 1 where the list has blocks, and `place` is where to go on.
 #[repr(C)]
-#[derive(Drop)]
+#[derive(Clone, Copy)]
 pub struct TidVisit {
     pub code: i32,
     pub more: u32,
@@ -151,7 +151,7 @@ pub fn begun_told(b: Begun) -> TidVisit
 
 // A step of a visit: the block handed over; `more` is 1 where indexes are left, and `place` is where to go on.
 #[repr(C)]
-#[derive(Drop)]
+#[derive(Clone, Copy)]
 pub struct TidStep {
     pub code: i32,
     pub block: u32,
@@ -208,7 +208,7 @@ pub fn step_told(s: Step) -> TidStep
 // The first fault of a list: kind 0 is none; 1 a number not below the block count, 2 a number met before, 3 a further pointer that disagrees, 4 an empty
 // list whose head is not null.
 #[repr(C)]
-#[derive(Drop)]
+#[derive(Clone, Copy)]
 pub struct TidCheck {
     pub code: i32,
     pub kind: u32,

@@ -9,7 +9,7 @@ use saved::{Loaded, Loading, Saved};
 
 // A table handed back; on a refusal as it came.
 #[repr(C)]
-#[derive(Drop)]
+#[derive(Clone, Copy)]
 pub struct TidTable {
     pub code: i32,
     pub table: Table,
@@ -45,7 +45,7 @@ pub fn changed_told(c: Changed) -> TidTable
 }
 
 #[repr(C)]
-#[derive(Drop)]
+#[derive(Clone, Copy)]
 pub struct TidSize {
     pub code: i32,
     pub size: u32,
@@ -62,7 +62,7 @@ pub fn sized_told(s: Sized) -> TidSize
 }
 
 #[repr(C)]
-#[derive(Drop)]
+#[derive(Clone, Copy)]
 pub struct TidSeek {
     pub code: i32,
     pub position: u32,
@@ -89,7 +89,7 @@ pub fn sought_told(s: Sought) -> TidSeek
 
 // How many bytes a saved table took.
 #[repr(C)]
-#[derive(Drop)]
+#[derive(Clone, Copy)]
 pub struct TidSave {
     pub code: i32,
     pub length: u32,

@@ -8,7 +8,7 @@ use window::{Allocated, Answer, Lookahead};
 
 // A window handed back; on a refusal as it came, and that of zeros where none came.
 #[repr(C)]
-#[derive(Drop)]
+#[derive(Clone, Copy)]
 pub struct TidWindow {
     pub code: i32,
     pub window: Lookahead,
@@ -33,7 +33,7 @@ pub fn replied_told(w: Replied) -> TidWindow
 
 // The block taken, and the window after it.
 #[repr(C)]
-#[derive(Drop)]
+#[derive(Clone, Copy)]
 pub struct TidAlloc {
     pub code: i32,
     pub block: u32,
@@ -71,7 +71,7 @@ pub fn allocated_told(a: Allocated) -> TidAlloc
 
 // The new last block of a list, where its data goes on, and the window after the growth.
 #[repr(C)]
-#[derive(Drop)]
+#[derive(Clone, Copy)]
 pub struct TidExtend {
     pub code: i32,
     pub block: u32,

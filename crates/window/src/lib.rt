@@ -11,7 +11,7 @@ ghost use Rattle.window.specs.inner.Facts.{Searchable, scope};
 // Bit o % 8 of byte o / 8 stands for block start + o modulo the block count. Of `size` offsets `next` were passed; the checkpoint count says how many
 // blocks may still be passed.
 #[repr(C)]
-#[derive(Drop)]
+#[derive(Clone, Copy)]
 pub struct Lookahead {
     pub map: [u8; 64],
     pub start: u32,
@@ -21,28 +21,28 @@ pub struct Lookahead {
 }
 
 // What a search in the window finds.
-#[derive(Drop)]
+#[derive(Clone, Copy)]
 pub enum Got {
     Block(u32),
     // The window is used up.
     Empty,
 }
 
-#[derive(Drop)]
+#[derive(Clone, Copy)]
 pub struct Taken {
     pub answer: Got,
     pub window: Lookahead,
 }
 
 // A scan: whether no visit met -84, and the window that it leaves.
-#[derive(Drop)]
+#[derive(Clone, Copy)]
 pub struct Scanned {
     pub ok: bool,
     pub window: Lookahead,
 }
 
 // What an allocation answers.
-#[derive(Drop)]
+#[derive(Clone, Copy)]
 pub enum Answer {
     Block(u32),
     // -28.
@@ -53,7 +53,7 @@ pub enum Answer {
     Refused,
 }
 
-#[derive(Drop)]
+#[derive(Clone, Copy)]
 pub struct Allocated {
     pub answer: Answer,
     pub window: Lookahead,

@@ -6,14 +6,14 @@ use crate::Lookahead;
 use layout::{Geometry, Made};
 
 // What these calls answer.
-#[derive(Drop)]
+#[derive(Clone, Copy)]
 pub enum Reply {
     Done,
     // -22.
     Refused,
 }
 
-#[derive(Drop)]
+#[derive(Clone, Copy)]
 pub struct Replied {
     pub answer: Reply,
     pub window: Lookahead,

@@ -8,12 +8,12 @@ use Rattle.programs.proofs.program_copy.Goals as goal
 pub returns-then-refuses_program : goal.returns-then-refuses_program
 returns-then-refuses_program c =
     let a = c.args in
-    let vs = take a.n (drop (a.from_block * a.b + a.from-off) a.image.now) in
+    let vs = take a.n (drop (a.from_block * a.b + a.from_off) a.image.now) in
     gives_refused a.health.now a.b a.k a.off vs a.image.now (cc)
 
 pub returns : goal.returns
 unfolding stored
 returns c =
     let a = c.args in
-    let vs = take a.n (drop (a.from_block * a.b + a.from-off) a.image.now) in
+    let vs = take a.n (drop (a.from_block * a.b + a.from_off) a.image.now) in
     gives_stored a.health.now a.b a.k a.off vs a.image.now _ (cc) c.copy_within.ensures
