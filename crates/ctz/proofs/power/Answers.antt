@@ -2,17 +2,9 @@
 use mathlib.Core.Path.{◌∙◌}
 use native.Mathlib.Nat.{one-mul}
 use native.Mathlib.Omega.{arith}
-use borrow.Author.Rules.{rules}
 use lib.Dec.{lit<}
 use lib.Pow.{shl_exact}
-use Rattle.ctz.proofs.power.Statement.{statement}
-use Rattle.ctz.proofs.power.Tie as tie
+use Rattle.ctz.proofs.power.Goals as goal
 
-shl-result : tie.Need-overflow-shl-result
-shl-result c = search rules
-
-returns : tie.Need-returns
+pub returns : goal.returns
 returns c = shl_exact 1 c.args.x 32 (lit< tt) (omega arith) ∙ one-mul _
-
-pub power_spec : {M : Type 1} → statement M
-power_spec = tie.close (tie.spec shl-result returns)

@@ -1,0 +1,15 @@
+-- `ctz::walk_to` meets its contract. The loop's invariant: the answer is still the walk from here, with fuel for each hop that is left.
+-- Each hop lowers the index, so the hops and the index together never pass the first one. Assumes nothing.
+use mathlib.Core.Path.{◌≡◌}
+use Prim.Native.Nat.{suc, ◌+◌, ◌-◌, ◌≤◌}
+use Rattle.card.specs.Card.{pointer}
+use Rattle.ctz.specs.Lookup.{walk}
+use Rattle.ctz.specs.inner.Forms.{pointers_with, target, stand}
+use Rattle.ctz.proofs.walk_to.Given as goal
+
+abbrev pub invariant-loop-k : goal.invariant-loop-k
+invariant-loop-k l = (l.hops + l.cur ≤ l.top)
+    × (walk (suc l.top) (pointers_with l.n (pointer l.b l.image)) (target l.tgt l.off) (stand l.top l.head 0) ≡ walk (suc (l.top - l.hops)) (pointers_with l.n (pointer l.b l.image)) (target l.tgt l.off) (stand l.cur l.k l.hops))
+
+abbrev pub decreases-loop-k : goal.decreases-loop-k
+decreases-loop-k l = l.cur - l.tgt
