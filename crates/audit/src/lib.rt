@@ -1,4 +1,6 @@
 // The list check: sound, or its first fault.
+#![tactic(auto)]
+
 mod bits;
 
 ghost use Rattle.std.specs.Prelude.{◌≡◌, [], length};

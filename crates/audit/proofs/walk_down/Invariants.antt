@@ -1,0 +1,16 @@
+-- `audit::walk_down` meets its contract. The loop's invariant: the map's bits are the numbers met, and the answer is still that of the walk
+-- from here with those numbers. Assumes nothing.
+use mathlib.Core.Path.{◌≡◌}
+use mathlib.Core.List.{List, []}
+use Prim.Native.Nat.{ℕ, ◌-◌}
+use Rattle.card.specs.Card.{pointer}
+use Rattle.ctz.specs.inner.Forms.{pointers_with}
+use Rattle.audit.specs.Check.{falls}
+use Rattle.audit.proofs.Falling.{Agrees}
+use Rattle.audit.proofs.walk_down.Given as goal
+
+abbrev pub invariant-loop-k : goal.invariant-loop-k
+invariant-loop-k l = (ms : List ℕ) × Agrees l.met ms × (falls (pointers_with l.n (pointer l.b l.image)) l.top l.head [] ≡ falls (pointers_with l.n (pointer l.b l.image)) l.i l.k ms)
+
+abbrev pub decreases-loop-k : goal.decreases-loop-k
+decreases-loop-k l = l.i
