@@ -1,4 +1,6 @@
 // The file table: which tables there are, and a file's place and size in one.
+#![tactic(auto)]
+
 pub mod change;
 pub mod position;
 
