@@ -1,4 +1,6 @@
 // The saved table: numbers in groups of seven bits, shortest form only.
+#![tactic(auto)]
+
 mod read;
 mod write;
 

@@ -1,4 +1,6 @@
 // The window of the block allocator, a value: checkpoint, drop, search with eager move, the start of a scan, and which windows are refused.
+#![tactic(auto)]
+
 pub mod map;
 pub mod setup;
 

@@ -137,6 +137,7 @@ module _ (n l : ℕ) (listed : List ℕ) (used : ℕ → Bool) (seen : Seen) (z 
       go (suc m) answer.NoSpace (full c p o) ih =
           sym (ap (λ (x : List ℕ). leb (suc m) (good_in good x)) (full_none base n used w.ckpoint k.valid.ck_le p) ∙ lt-leb (suc m) (good_in good []) (omega (arith, good_nil good)))
       go (suc m) answer.Damaged (bad f _ _) ih = absurd (no_both seen.ok t.ok f)
+      go (suc m) answer.Refused v ih = elim v [ ]
 
 -- there is one such sequence only
 pub one_spent : {n l : ℕ} {seen : Seen} {w u v : Lookahead} {bs cs : List ℕ} → SpentWindow n l seen w bs u → SpentWindow n l seen w cs v → bs ≡ cs

@@ -145,6 +145,6 @@ module _ (n l : ℕ) (listed : List ℕ) (seen : Seen) (z : GoodScope n l) (t : 
   still_clean s = (result s).says
 
 -- THEOREM. Every run of a call, from a valid and clean window.
-pub running : {n l : ℕ} {listed out : List ℕ} {w v : Lookahead} → GoodScope n l → ValidWindow w n l → CleanWindow n listed w → Allocations n l listed (checkpoint_of n w) out v → During n l listed v out
+pub running : {n l : ℕ} {listed : List ℕ} {w : Lookahead} {out : List ℕ} {v : Lookahead} → GoodScope n l → ValidWindow w n l → CleanWindow n listed w → Allocations n l listed (checkpoint_of n w) out v → During n l listed v out
 running {n} {l} {listed} {w = w} z g c start = begins n l listed w g c
 running {n} {l} {listed} z g c (more b seen r t e) = goes_on n l listed seen z t b (running z g c r) e
