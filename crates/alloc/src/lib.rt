@@ -1,4 +1,6 @@
 // Allocation on a card: a scan marks every block of every file, and the window hands out the first unmarked one.
+#![tactic(auto)]
+
 ghost use Rattle.std.specs.Prelude.{◌≡◌, length};
 ghost use Rattle.card.specs.Card.{card_of};
 ghost use Rattle.card.specs.inner.Cards.{card_with};

@@ -1,4 +1,6 @@
 // One growth of a block list: ctz_extend.
+#![tactic(auto)]
+
 pub mod attempts;
 mod block;
 

@@ -1,0 +1,14 @@
+-- `alloc::mark_file` meets its contract: what is left of the visit, marked from the map as it stands, comes to what the whole visit does. Assumes nothing.
+use Rattle.layout.specs.inner.Served.{block_list}
+use Rattle.card.specs.Card.{pointer}
+use Rattle.card.specs.inner.Cards.{card_with}
+use Rattle.ctz.specs.Visits.{visit_of}
+use Rattle.ctz.proofs.Visiting.{visit_from}
+use Rattle.alloc.proofs.Files.{Goes}
+use Rattle.alloc.proofs.mark_file.Given as goal
+
+abbrev pub invariant-loop-block : goal.invariant-loop-block
+invariant-loop-block l = Goes l.start l.size l.n l.initial.map (visit_of (card_with l.b l.n l.image) (block_list l.initial.v.block l.bytes)) l.map (visit_from (pointer l.b l.image) l.n l.v)
+
+abbrev pub decreases-loop-block : goal.decreases-loop-block
+decreases-loop-block l = l.v.index

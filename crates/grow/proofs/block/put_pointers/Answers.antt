@@ -1,0 +1,55 @@
+-- `grow::block::put_pointers` meets its contract: the pointers from the first on are those that are left from `x` on. Assumes nothing.
+use mathlib.Core.Path.{refl, ◌∙◌}
+use Prim.Native.Nat.{◌*◌, ◌-◌}
+use native.Mathlib.Omega.{arith}
+use Rattle.device.proofs.Blanks.{blank_part}
+use Rattle.grow.proofs.Rooms.{room_of, asked_of, gives}
+use Rattle.grow.proofs.Pointers.{put_start, words_blank, put_done, put_damaged, put_spoiled, put_turn}
+use borrow.Author.Rules.{rules}
+use Rattle.grow.proofs.block.put_pointers.Goals as goal
+
+pub loop-x-init : goal.loop-x-init
+loop-x-init c =
+    (search rules, refl, put_start _ _ _ _ _ _ _ _, blank_part (4 * 0) (4 * (c.args.count - 0)) (omega arith) (omega arith) c.requires.2)
+
+pub returns-then-n-cur : goal.returns-then-n-cur
+returns-then-n-cur c =
+    let a = c.args in
+    gives _ _
+    (c.loop-x.invariant.2
+    ∙ put_damaged a.health.now a.b a.n a.k (4 * a.count) a.count c.loop-x.x c.loop-x.cur c.loop-x.image (search rules) (search rules))
+
+pub program_word-put-requires : goal.program_word-put-requires
+program_word-put-requires c =
+    (room_of _ _ _ c.requires.0 c.loop-x.invariant.1 (omega arith), blank_part _ _ (omega arith) (omega arith) c.loop-x.invariant.3)
+
+pub returns-in-Refused : goal.returns-in-Refused
+returns-in-Refused c =
+    let a = c.args in
+    gives _ _
+    (c.loop-x.invariant.2
+    ∙ put_spoiled a.health.now a.b a.n a.k (4 * a.count) a.count c.loop-x.x c.loop-x.cur c.loop-x.image (search rules) (search rules)
+    c.program_word-put.ensures c.in-Refused.is)
+
+pub pointer-cur-requires : goal.pointer-cur-requires
+pointer-cur-requires c =
+    asked_of _ _ _ c.requires.0 (omega (arith, c.program_word-put.auto.image)) (omega arith) (omega arith)
+
+pub loop-x-preserved : goal.loop-x-preserved
+loop-x-preserved c =
+    let a = c.args in (
+      search rules,
+      search rules,
+      c.loop-x.invariant.2
+          ∙ put_turn a.health.now a.b a.n a.k (4 * a.count) a.count c.loop-x.x c.loop-x.cur c.loop-x.image (search rules) (search rules)
+          c.program_word-put.ensures _ c.in-Stored.is c.pointer-cur.ensures,
+      words_blank a.health.now a.count c.loop-x.x c.loop-x.cur (search rules) c.program_word-put.ensures
+          c.loop-x.invariant.3,
+    )
+
+pub returns : goal.returns
+returns c =
+    let a = c.args in
+    gives _ _
+    (c.loop-x.invariant.2
+    ∙ put_done a.health.now a.b a.n a.k (4 * a.count) a.count c.loop-x.x c.loop-x.cur c.loop-x.image (search rules))
