@@ -88,7 +88,7 @@ returns-3 c =
     let i = c.before.before.before.before.before.before in
     let s = i.before.before.before.before in
     answered_on s.args.image.now s.requires i.before.before.index-at.ensures i.before.index-at2.ensures i.index-at3.ensures
-    c.before.before.before.before.before.least.ensures _ c.before.before.before.find-run.ensures _ (not-false _ c.before.before.if1.false) c.before.if2.false c.found_from_lem.ensures
+    c.before.before.before.before.before.least.ensures _ c.before.before.before.find-run.ensures _ (not-false _ c.before.before.if1.false) c.before.if2.false c.found_from.ensures
 
 pub found_all_spec : {M : Type 1} → statement M
 found_all_spec =
