@@ -1,4 +1,6 @@
 // The blocks that hold the bytes of a read: every one is found before a byte is copied, and up to 1,024 are noted at a time.
+#![tactic(auto)]
+
 pub mod numbers;
 
 ghost use Rattle.std.specs.Prelude.{length};

@@ -1,4 +1,6 @@
 // One new block, filled with gap, data and tail.
+#![tactic(auto)]
+
 pub mod numbers;
 
 ghost use Rattle.std.specs.Prelude.{◌≤◌, length};

@@ -1,4 +1,6 @@
 // The old list of a file: lookups of its blocks before a write.
+#![tactic(auto)]
+
 ghost use Rattle.std.specs.Prelude.{◌≡◌, ◌-◌, ◌≤◌, ◌<◌, length};
 ghost use Rattle.layout.specs.Layout.{index_at, start};
 ghost use Rattle.layout.specs.Numbers.{size_max};

@@ -1,4 +1,6 @@
 // The reading calls of the store: read, and the stretch with its companion. Both see geometry, image, table, file number and position.
+#![tactic(auto)]
+
 mod list;
 
 ghost use Rattle.std.specs.Prelude.{◌≡◌};

@@ -1,0 +1,11 @@
+-- `copy_part` copies a part of the block that it lends. Assumes nothing.
+use mathlib.Core.Path.{ap, ◌∙◌}
+use Prim.Native.Nat.{◌*◌}
+use lib.Seq.{sets}
+use Rattle.finding.proofs.Parts.{lent_part}
+use Rattle.copies.proofs.copy_part.Goals as goal
+
+pub returns : goal.returns
+returns c =
+    c.copy.ensures
+    ∙ ap (sets c.args.buffer.now c.args.to) (lent_part c.args.image.now (c.args.k * c.args.b) c.args.b _ _ c.requires.inside)

@@ -1,0 +1,50 @@
+-- `found_all` answers whether every lookup of the run finds its block: those of the indexes from its first position's to its last one's. Assumes nothing.
+use Prim.Native.Nat.{◌+◌, ◌-◌}
+use native.Mathlib.Nat.{min-le_left, min-le_right}
+use native.Mathlib.Omega.{arith}
+use Rattle.finding.proofs.Positions.{indexed, ordered}
+use Rattle.finding.proofs.Answers.{answered_lost, answered_short, answered_on}
+use Rattle.finding.proofs.found_all.Goals as goal
+
+pub overflow_sub-last : goal.overflow_sub-last
+overflow_sub-last c = ordered c.requires.run c.requires.some c.index_at-first.ensures c.index_at-last.ensures
+
+pub overflow_add-last : goal.overflow_add-last
+overflow_add-last c =
+    let l = indexed c.requires.run c.requires.some c.index_at-top.ensures c.index_at-last.ensures in
+    omega (arith, l.below, l.short)
+
+pub find_run-requires : goal.find_run-requires
+find_run-requires c =
+    let l = indexed c.requires.run c.requires.some c.index_at-top.ensures c.index_at-last.ensures in
+    let m = min-le_left (c.index_at-last.result - c.index_at-first.result + 1) 1024 in
+    let k = min-le_right (c.index_at-last.result - c.index_at-first.result + 1) 1024 in
+    record {
+      walks = l.walks;
+      inside = omega (arith, c.least-part.ensures, l.below, ordered c.requires.run c.requires.some c.index_at-first.ensures c.index_at-last.ensures);
+      fits = omega (arith, c.least-part.ensures, c.requires.long);
+      few = omega (arith, c.requires.long);
+    }
+
+pub returns-then-not-find_run : goal.returns-then-not-find_run
+returns-then-not-find_run c =
+    answered_lost c.args.image.now c.requires c.index_at-top.ensures c.index_at-first.ensures c.index_at-last.ensures
+    c.least-part.ensures _ c.find_run.ensures c.if-not-find_run.true
+
+pub overflow_sub-last-2 : goal.overflow_sub-last-2
+overflow_sub-last-2 c =
+    ordered c.requires.run c.requires.some c.index_at-first.ensures c.index_at-last.ensures
+
+pub returns-then-last-first-lt1024 : goal.returns-then-last-first-lt1024
+returns-then-last-first-lt1024 c =
+    answered_short c.args.image.now c.requires c.index_at-top.ensures c.index_at-first.ensures c.index_at-last.ensures
+    c.least-part.ensures _ c.find_run.ensures c.if-not-find_run.false c.if-last-first-lt1024.true
+
+pub found_from-requires : goal.found_from-requires
+found_from-requires c =
+    indexed c.requires.run c.requires.some c.index_at-top.ensures c.index_at-last.ensures
+
+pub returns : goal.returns
+returns c =
+    answered_on c.args.image.now c.requires c.index_at-top.ensures c.index_at-first.ensures c.index_at-last.ensures
+    c.least-part.ensures _ c.find_run.ensures _ c.if-not-find_run.false c.if-last-first-lt1024.false c.found_from.ensures

@@ -1,0 +1,78 @@
+-- `old_list::tail_looked` meets its contract: what is left to look for equals the whole. Assumes nothing.
+use mathlib.Core.Path.{refl, sym, ap, ◌∙◌}
+use Prim.Native.Nat.{ℕ, ◌+◌, ◌-◌}
+use native.Mathlib.Omega.{arith}
+use Rattle.layout.proofs.Places.{offset_inside}
+use Rattle.layout.proofs.Served.{served, index_in}
+use Rattle.old_list.specs.inner.Lookups.{look_in}
+use Rattle.old_list.proofs.Looks.{look_same, told_block, told_lost}
+use Rattle.old_list.proofs.Heads.{tail_lost, tail_turn, tail_end}
+use Rattle.old_list.proofs.tail_looked.Goals as goal
+
+pub loop-p-init : goal.loop-p-init
+loop-p-init c = refl
+
+pub look-found-requires : goal.look-found-requires
+look-found-requires c = (c.requires.0, c.loop-p-test.true)
+
+pub returns-in-Lost : goal.returns-in-Lost
+returns-in-Lost c =
+    let a = c.args in
+    tail_lost (look_in a.b a.n a.e) a.image.now a.b _ c.loop-p.p
+    (served c.requires.0.card.sized (omega (arith, c.loop-p-test.true, c.requires.0.most)))
+    (λ r. look_same a.b a.n a.e a.image.now r c.loop-p.p) c.loop-p-test.true
+    (told_lost _ (sym c.look-found.ensures ∙ c.in-Lost.is)) ∙ sym c.loop-p.invariant
+
+pub index_at-index-requires : goal.index_at-index-requires
+index_at-index-requires c =
+    served c.requires.0.card.sized (omega (arith, c.loop-p-test.true, c.requires.0.most))
+
+pub offset_at-requires : goal.offset_at-requires
+offset_at-requires c =
+    record {
+      served = served c.requires.0.card.sized
+          (omega (arith, c.loop-p-test.true, c.requires.0.most));
+      index = c.index_at-index.ensures;
+    }
+
+pub overflow_sub-p : goal.overflow_sub-p
+overflow_sub-p c =
+    omega (
+      arith,
+      c.offset_at.ensures,
+      offset_inside c.args.b c.loop-p.p
+          (index_in (served c.requires.0.card.sized (omega (arith, c.loop-p-test.true, c.requires.0.most)))),
+    )
+
+pub overflow_add-p : goal.overflow_add-p
+overflow_add-p c =
+    omega (arith, c.offset_at.ensures, c.loop-p-test.true, c.requires.0.most, c.requires.0.card.high)
+
+pub loop-p-smaller : goal.loop-p-smaller
+loop-p-smaller c =
+    omega (
+      arith,
+      c.loop-p-test.true,
+      c.offset_at.ensures,
+      offset_inside c.args.b
+          c.loop-p.p (index_in
+          (served c.requires.0.card.sized (omega (arith, c.loop-p-test.true, c.requires.0.most)))),
+    )
+
+pub loop-p-preserved : goal.loop-p-preserved
+loop-p-preserved c =
+    let a = c.args in
+    c.loop-p.invariant ∙ tail_turn (look_in a.b a.n a.e) a.image.now a.b _
+    c.loop-p.p (served c.requires.0.card.sized
+    (omega (arith, c.loop-p-test.true, c.requires.0.most)))
+    (λ r. look_same a.b a.n a.e a.image.now r c.loop-p.p)
+    c.loop-p-test.true _ _ (told_block _ _
+    (sym c.look-found.ensures ∙ c.in-Block.is))
+    (ap (λ (o : ℕ). c.loop-p.p + (a.b - o)) c.offset_at.ensures)
+    (omega (arith, c.loop-p-test.true, c.requires.0.most, c.requires.0.card.high))
+
+pub returns : goal.returns
+returns c =
+    let a = c.args in
+    let l = c.loop-p in
+    tail_end (look_in a.b a.n a.e) a.image.now a.b _ l.p c.loop-p-test.false ∙ sym l.invariant
