@@ -1,4 +1,6 @@
 // A write by growths, each new block filled before the next growth.
+#![tactic(auto)]
+
 ghost use Rattle.std.specs.Prelude.{◌≡◌};
 ghost use Rattle.new_list.specs.inner.Put.{ended_of, on_from, WroteGives, Putting, puts};
 
