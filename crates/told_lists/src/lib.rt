@@ -1,4 +1,6 @@
 // Answers of the list calls as the exported structs hand them over: index of a position, lookup, visit and list check.
+#![tactic(auto)]
+
 ghost use Rattle.std.specs.Prelude.{◌≡◌};
 ghost use Rattle.told_lists.specs.Lists.{place_told, found_told, place_asked, held_told, next_told, begun_told, step_told, fault_told, checked_told};
 

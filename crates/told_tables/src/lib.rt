@@ -1,4 +1,6 @@
 // Answers of the table calls as the exported structs hand them over: create, remove, size, seek, save and load.
+#![tactic(auto)]
+
 ghost use Rattle.std.specs.Prelude.{◌≡◌};
 ghost use Rattle.told_tables.specs.Tables.{changed_told, sized_told, sought_told, saved_told, loaded_told};
 

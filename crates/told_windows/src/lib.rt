@@ -1,4 +1,6 @@
 // Answers of the window calls and of a growth as the exported structs hand them over.
+#![tactic(auto)]
+
 ghost use Rattle.std.specs.Prelude.{◌≡◌};
 ghost use Rattle.told_windows.specs.Windows.{replied_told, allocated_told, grew_told};
 

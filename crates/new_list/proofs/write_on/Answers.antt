@@ -11,52 +11,34 @@ extend_in-grew-requires c =
 
 pub fill_block-filled-requires : goal.fill_block-filled-requires
 fill_block-filled-requires c =
-    let g = a in
-    let l = g in
-    let s = l in
-    rest_fills s.requires l.loop.invariant (loop_new s.requires l.beyond.ensures g.loop-test.true) g.extend_in.ensures
-    c.in-Grown.is g.extend_in.auto.1.1.1.0
+    rest_fills c.requires c.loop-s.invariant (loop_new c.requires c.beyond.ensures c.loop-s-test.true) c.extend_in-grew.ensures
+    c.in-Grown.is c.extend_in-grew.auto.image
 
 pub loop-s-smaller-in-Done : goal.loop-s-smaller-in-Done
 loop-s-smaller-in-Done c =
-    let g = a in
-    let l = g in
-    let s = l in
-    falls s.requires l.loop.invariant (loop_new s.requires l.beyond.ensures g.loop-test.true) g.extend_in.ensures
+    falls c.requires c.loop-s.invariant (loop_new c.requires c.beyond.ensures c.loop-s-test.true) c.extend_in-grew.ensures
     c.in-Grown.is
 
 pub loop-s-preserved-in-Done : goal.loop-s-preserved-in-Done
 loop-s-preserved-in-Done c =
-    let g = a in
-    let l = g in
-    let s = l in
-    goes_on s.requires l.loop.invariant (loop_new s.requires l.beyond.ensures g.loop-test.true) g.extend_in.ensures
-    c.in-Grown.is c.fill_block-filled.ensures g.extend_in.auto.1.1.1.0
+    goes_on c.requires c.loop-s.invariant (loop_new c.requires c.beyond.ensures c.loop-s-test.true) c.extend_in-grew.ensures
+    c.in-Grown.is c.fill_block-filled.ensures c.extend_in-grew.auto.image
     c.fill_block-filled.auto.image _ c.in-Done.is
 
 pub loop-s-smaller : goal.loop-s-smaller
 loop-s-smaller c =
-    let g = a in
-    let l = g in
-    let s = l in
-    falls s.requires l.loop.invariant (loop_new s.requires l.beyond.ensures g.loop-test.true) g.extend_in.ensures
+    falls c.requires c.loop-s.invariant (loop_new c.requires c.beyond.ensures c.loop-s-test.true) c.extend_in-grew.ensures
     c.in-Grown.is
 
 pub loop-s-preserved : goal.loop-s-preserved
 loop-s-preserved c =
-    let g = a in
-    let l = g in
-    let s = l in
-    moves_on s.requires l.loop.invariant (loop_new s.requires l.beyond.ensures g.loop-test.true) g.extend_in.ensures
-    c.in-Grown.is c.fill_block-filled.ensures g.extend_in.auto.1.1.1.0
+    moves_on c.requires c.loop-s.invariant (loop_new c.requires c.beyond.ensures c.loop-s-test.true) c.extend_in-grew.ensures
+    c.in-Grown.is c.fill_block-filled.ensures c.extend_in-grew.auto.image
     c.fill_block-filled.auto.image c.in-Spoiled.is
 
 pub returns-in-Damaged-filled : goal.returns-in-Damaged-filled
 returns-in-Damaged-filled c =
-    let g = a in
-    let l = g in
-    let s = l in
-    wrote_as c.ended.ensures (ends_lost s.requires l.loop.invariant (loop_new s.requires l.beyond.ensures g.loop-test.true) g.extend_in.ensures
+    wrote_as c.ended.ensures (ends_lost c.requires c.loop-s.invariant (loop_new c.requires c.beyond.ensures c.loop-s-test.true) c.extend_in-grew.ensures
     c.in-Grown.is c.fill_block-filled.ensures c.in-Damaged-filled.is)
 
 pub returns-in-Full : goal.returns-in-Full
