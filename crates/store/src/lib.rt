@@ -1,4 +1,6 @@
 // The store: write and truncate.
+#![tactic(auto)]
+
 mod file;
 mod steps;
 
