@@ -1,4 +1,6 @@
 // The list of answers, read in small steps. Past its end a word is 0 and a part is empty, so nothing is asked of the file.
+#![tactic(auto)]
+
 pub mod agree;
 
 ghost use Rattle.std.specs.Prelude.{◌≡◌};
