@@ -1,4 +1,6 @@
 // Answers of the calls on a file as the exported structs hand them over: read, stretch, write and truncate.
+#![tactic(auto)]
+
 ghost use Rattle.std.specs.Prelude.{◌≡◌};
 ghost use Rattle.store.specs.Store.{outcome_code};
 ghost use Rattle.told_files.specs.Contents.{read_told, placed_told, stored_told};
