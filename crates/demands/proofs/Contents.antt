@@ -32,7 +32,7 @@ change_none number g k (f ∷ fs) = go (eqb f.number number) refl (change_none n
 
 module _ (B : ℕ) (img : List ℕ) where
   -- whether there is one of that number, and its bytes
-  pub placed_holds : {number m : ℕ} {e : Entry} {es : List Entry} → Placed number e m es → has_file number (map (file_in B img) es) ≡ true
+  pub placed_holds : {number : ℕ} {e : Entry} {m : ℕ} {es : List Entry} → Placed number e m es → has_file number (map (file_in B img) es) ≡ true
   unfolding has_file
   placed_holds {number} {e = e} (first q) = rw (has_file, eq-eqb e.number number q)
   placed_holds {number} (next {x = x} n p) = rw (has_file, ne_eqb x.number number n) (placed_holds p)
@@ -42,7 +42,7 @@ module _ (B : ℕ) (img : List ℕ) where
   unnamed_holds none = refl
   unnamed_holds {number} (one {x = x} n u) = rw (has_file, ne_eqb x.number number n) (unnamed_holds u)
 
-  pub placed_bytes : {number m : ℕ} {e : Entry} {es : List Entry} → Placed number e m es → file_bytes number (map (file_in B img) es) ≡ bytes B img (block_list e.head e.size)
+  pub placed_bytes : {number : ℕ} {e : Entry} {m : ℕ} {es : List Entry} → Placed number e m es → file_bytes number (map (file_in B img) es) ≡ bytes B img (block_list e.head e.size)
   unfolding file_bytes
   placed_bytes {number} {e = e} (first q) = rw (file_bytes, eq-eqb e.number number q)
   placed_bytes {number} (next {x = x} n p) = rw (file_bytes, ne_eqb x.number number n) (placed_bytes p)
@@ -84,7 +84,7 @@ module _ (B : ℕ) (img img' : List ℕ) where
       ap₂ (λ (bs : List ℕ) (fs : List PlainFile). record { number = x.number; bytes = bs } ∷ fs) (r x here) (same_files es (λ y a. r y (there a)))
 
   -- one file changed
-  pub change_files : {number m : ℕ} {e : Entry} {es : List Entry} (g : List ℕ → List ℕ) → Placed number e m es → Read es → (e' : Entry)
+  pub change_files : {number : ℕ} {e : Entry} {m : ℕ} {es : List Entry} (g : List ℕ → List ℕ) → Placed number e m es → Read es → (e' : Entry)
       → e'.number ≡ e.number → bytes B img' (block_list e'.head e'.size) ≡ g (bytes B img (block_list e.head e.size))
       → map (file_in B img') (set es m e') ≡ plain_change number g (map (file_in B img) es)
   unfolding plain_change
@@ -98,19 +98,19 @@ module _ (B : ℕ) (img img' : List ℕ) where
       (change_files g p (λ y a. r y (there a)) e' n b))
 
 -- a file in its own place
-pub set_same : {number m : ℕ} {e : Entry} {es : List Entry} → Placed number e m es → set es m e ≡ es
+pub set_same : {number : ℕ} {e : Entry} {m : ℕ} {es : List Entry} → Placed number e m es → set es m e ≡ es
 set_same (first q) = refl
 set_same (next {x = x} k p) = ap (λ (es : List Entry). x ∷ es) (set_same p)
 
 -- ---- the entries of the other files
 
-pub set_kept : {number m : ℕ} {e x : Entry} {es : List Entry} (e' : Entry) → Placed number e m es → (x.number ≡ number → ⊥) → Among x es → Among x (set es m e')
+pub set_kept : {number : ℕ} {e : Entry} {m : ℕ} {x : Entry} {es : List Entry} (e' : Entry) → Placed number e m es → (x.number ≡ number → ⊥) → Among x es → Among x (set es m e')
 set_kept e' (first q) n here = absurd (n q)
 set_kept e' (first q) n (there a) = there a
 set_kept e' (next k p) n here = here
 set_kept e' (next k p) n (there a) = there (set_kept e' p n a)
 
-pub set_from : {number m : ℕ} {e x : Entry} {es : List Entry} (e' : Entry) → Placed number e m es → e'.number ≡ e.number → (x.number ≡ number → ⊥)
+pub set_from : {number : ℕ} {e : Entry} {m : ℕ} {x : Entry} {es : List Entry} (e' : Entry) → Placed number e m es → e'.number ≡ e.number → (x.number ≡ number → ⊥)
     → Among x (set es m e') → Among x es
 set_from e' (first q) r n here = absurd (n (r ∙ q))
 set_from e' (first q) r n (there a) = there a
@@ -127,6 +127,7 @@ first_is {x} es q = subst (λ (y : Entry). Among x (y ∷ es)) q here
 
 pub insert_kept : (number : ℕ) (x : Entry) (es : List Entry) → Among x es → Among x (insert_of number es)
 unfolding insert_of
+insert_kept number x [] a = elim a [ ]
 insert_kept number x (e ∷ es) a = go (ltb e.number number) refl (among_cases a) (insert_kept number x es)
   where
     go : (t : Bool) → ltb e.number number ≡ t → (x ≡ e) ⊎ Among x es → (Among x es → Among x (insert_of number es)) → Among x (insert_of number (e ∷ es))
@@ -154,6 +155,7 @@ insert_from number x (e ∷ es) n a = go (ltb e.number number) refl (insert_from
 
 pub without_kept : (number : ℕ) (x : Entry) (es : List Entry) → (x.number ≡ number → ⊥) → Among x es → Among x (without_of number es)
 unfolding without_of
+without_kept number x [] n a = elim a [ ]
 without_kept number x (e ∷ es) n a = go (eqb e.number number) refl (among_cases a) (without_kept number x es n)
   where
     go : (t : Bool) → eqb e.number number ≡ t → (x ≡ e) ⊎ Among x es → (Among x es → Among x (without_of number es)) → Among x (without_of number (e ∷ es))
@@ -164,6 +166,7 @@ without_kept number x (e ∷ es) n a = go (eqb e.number number) refl (among_case
 
 pub without_from : (number : ℕ) (x : Entry) (es : List Entry) → Among x (without_of number es) → Among x es
 unfolding without_of
+without_from number x [] a = elim a [ ]
 without_from number x (e ∷ es) a = go (eqb e.number number) refl (without_from number x es)
   where
     cut : (x ≡ e) ⊎ Among x (without_of number es) → (Among x (without_of number es) → Among x es) → Among x (e ∷ es)

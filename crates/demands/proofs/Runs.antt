@@ -41,7 +41,7 @@ unfolding runs plain_runs plain_calls
 held_runs h [] = refl
 held_runs {g} {s} h (c ∷ cs) =
     let e = step h c.health c.call in
-    ap (with_code (after_in g c s).code) (held_runs {g = g} (ends_held h e) cs) ∙ turn e (plain_runs (plain_calls g cs (after_in g c s).state))
+    ap (with_code (after_in g c s).code) (held_runs {g = g} {s = (after_in g c s).state} (ends_held h e) cs) ∙ turn e (plain_runs (plain_calls g cs (after_in g c s).state))
 
 -- THE RUN. From a fresh window, on any table of sound lists: for every sequence of store calls, 01's number of each call and the bytes of all files at the
 -- end are those that the same calls give on plain files, refused calls changing nothing.
@@ -70,6 +70,6 @@ run_on {g} came so cs = held_runs {g = g} (came_held came so) cs
 pub run_sound : {g : Shape} {s : State} → Came g s → Sounds g s → (cs : List Request) → Came g (ran g cs s) × Sounds g (ran g cs s)
 unfolding ran
 run_sound came so [] = (came, so)
-run_sound {g} came so (c ∷ cs) =
+run_sound {g} {s} came so (c ∷ cs) =
     let h = came_held came so in
-    run_sound {g = g} (called c.health c.call came so) (ends_held h (step h c.health c.call)).sounds cs
+    run_sound {g = g} {s = (after_in g c s).state} (called c.health c.call came so) (ends_held h (step h c.health c.call)).sounds cs

@@ -73,6 +73,7 @@ pub data SoundFiles (B N : ℕ) (img : List ℕ) : List Entry → Type 0 where
 -- a file of a table of sound lists is one
 pub of_sounds : {B N : ℕ} {img : List ℕ} {e : Entry} {es : List Entry} → SoundFiles B N img es → Among e es
     → GoodList B N img e.size × SoundList (card_with B N img) (block_list e.head e.size)
+of_sounds none a = elim a [ ]
 of_sounds (one g l r) here = (g, l)
 of_sounds (one g l r) (there a) = of_sounds r a
 
@@ -87,6 +88,7 @@ module _ (B N : ℕ) (img : List ℕ) where
   pub listed_at : {e : Entry} {es : List Entry} → SoundFiles B N img es → Among e es → (i : ℕ) → start B i < e.size
       → has (listed_by B N es img) (block_at B img (block_list e.head e.size) i) ≡ true
   unfolding listed_of
+  listed_at none a i u = elim a [ ]
   listed_at {e} (one {es = es} g l r) here i u =
       has_left (visit_of (card_with B N img) (block_list e.head e.size)).handed (listed_by B N es img) (block_at B img (block_list e.head e.size) i)
       ((visit_told B N img e.head e.size g l).all i u)
