@@ -1,11 +1,17 @@
 // Replays a fixed list of the oracle's answers: each record is asked of the proved function and held to the oracle's answer.
 //
 // From byte 0 on the list has the place of the records of each kind, from byte 32 on their number; docs/DIFFERENCES.md says how it was made.
+#![tactic(auto)]
+
 mod blocks;
 mod lists;
 mod seeks;
 
-use libc::STDOUT_FILENO;
+ghost use Rattle.std.specs.Prelude.{◌≤◌, length, IfOk};
+
+use std::fs::File;
+use std::io;
+use std::io::Read;
 
 // How many records, from the first on, were answered as the oracle did, and where the next one stands.
 #[derive(Clone, Copy)]
@@ -49,29 +55,28 @@ fn run(list: &[u8], kind: u32, first: usize, width: usize, count: u32) -> Outcom
 }
 
 // Writes the line of one kind: how many records are equal, and where the first that differs stands.
-fn replay(list: &[u8], kind: u32, name: &[u8], width: usize) {
+fn replay(rt: &impl Print, list: &[u8], kind: u32, name: &str, width: usize) -> io::Result<()> {
     let count = records::word(list, 32, kind);
     let done = run(list, kind, records::place(list, 0, kind), width, count);
-    io::write_all(STDOUT_FILENO, name);
-    io::print_decimal(STDOUT_FILENO, done.equal as u64);
-    io::write_all(STDOUT_FILENO, b" equal");
     if done.equal < count {
-        io::write_all(STDOUT_FILENO, b", and the record at byte ");
-        io::print_decimal(STDOUT_FILENO, done.at as u64);
-        io::write_all(STDOUT_FILENO, b" differs");
+        println!(rt;
+            "{name} {} equal, and the record at byte {} differs",
+            done.equal, done.at
+        )
+    } else {
+        println!(rt; "{name} {} equal", done.equal)
     }
-    io::write_all(STDOUT_FILENO, b"\n");
 }
 
 // Every kind in turn, with the bytes that a record of it has.
-fn replay_all(list: &[u8]) {
-    replay(list, 0, b"index ", 24);
-    replay(list, 1, b"find ", 32);
-    replay(list, 2, b"visit ", 32);
-    replay(list, 3, b"alloc ", 28);
-    replay(list, 4, b"extend ", 40);
-    replay(list, 5, b"image ", 40);
-    replay(list, 6, b"seek ", 32);
+fn replay_all(rt: &impl Print, list: &[u8]) -> io::Result<()> {
+    replay(rt, list, 0, "index", 24)?;
+    replay(rt, list, 1, "find", 32)?;
+    replay(rt, list, 2, "visit", 32)?;
+    replay(rt, list, 3, "alloc", 28)?;
+    replay(rt, list, 4, "extend", 40)?;
+    replay(rt, list, 5, "image", 40)?;
+    replay(rt, list, 6, "seek", 32)
 }
 
 // Room for the list; of a longer one the last records are missing.
@@ -79,14 +84,24 @@ fn room() -> [u8; 262144] {
     [0; 262144]
 }
 
-fn main() {
-    let fd = os::open_read(b"answers");
-    if fd < 0 {
-        os::fail(b"answers");
-        return;
+// The file's bytes from here on, as many as there is room for; answers how many.
+fn read_full(file: &mut File, bytes: &mut [u8]) -> io::Result<usize>
+    ensures { IfOk result (λ n. n ≤ length bytes.new) }
+{
+    let mut n: usize = 0;
+    while n < bytes.len() {
+        let more = file.read(&mut bytes[n..])?;
+        if more == 0 {
+            break;
+        }
+        n += more;
     }
+    Ok(n)
+}
+
+fn main(rt: HostRuntime) -> io::Result<()> {
+    let mut file = File::open(&rt, "answers")?;
     let mut bytes = room();
-    let length = io::read_full(fd, &mut bytes);
-    libc::close(fd);
-    replay_all(&bytes[..length]);
+    let length = read_full(&mut file, &mut bytes)?;
+    replay_all(&rt, &bytes[..length])
 }
