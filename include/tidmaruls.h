@@ -1,7 +1,7 @@
 /*
  * Tidmaruls: files in block lists on flash, proved.
  *
- * C99, self-contained, usable from C++. Link with libtidmaruls.a (`rt staticlib tidmaruls` writes it to target/staticlib).
+ * C99, self-contained, usable from C++. Link with libtidmaruls.a (`tools/archive` writes it to target/staticlib).
  *
  * Every call takes its structs by value and answers a struct by value whose first field is `code`: 0, or one of the TID_
  * refusals below. A refused call's other values are 0; a window and a table in its answer are what the refusal leaves

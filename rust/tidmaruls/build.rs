@@ -1,4 +1,4 @@
-//! Links the proved library, libtidmaruls.a, that `rt staticlib tidmaruls` writes.
+//! Links the proved library, libtidmaruls.a, that `tools/archive` writes.
 //!
 //! It is looked for in the folder of the variable TIDMARULS_LIB_DIR, else in target/staticlib of the repository.
 
@@ -20,7 +20,7 @@ fn main() {
     println!("cargo::rerun-if-changed={}", library.display());
     if !library.is_file() {
         println!(
-            "cargo::error={} is not there: run `rt staticlib tidmaruls`, or name its folder in TIDMARULS_LIB_DIR",
+            "cargo::error={} is not there: run `tools/archive`, or name its folder in TIDMARULS_LIB_DIR",
             library.display()
         );
     }

@@ -35,7 +35,7 @@ use Rattle.demands.specs.Came.{Among, here, there, Sounds}
 use Rattle.demands.proofs.Tables.{listed_by, SoundFiles, none, one, of_sounds}
 use Rattle.demands.proofs.Store.{Before}
 use Rattle.demands.proofs.Again.{AtPlace}
-use Rattle.demands.proofs.Named.{Placed, first, next, placed_at}
+use Rattle.demands.proofs.Named.{Placed, placed_at}
 use Rattle.demands.proofs.Records.{shape}
 
 -- What holds before each store call on sound lists, and after it.

@@ -18,13 +18,11 @@ use Rattle.files.specs.declared.Table.{Table}
 use Rattle.files.specs.declared.Found.{Found}
 use Rattle.files.specs.declared.Found.TheVariants as found
 use Rattle.files.specs.declared.Sized.TheVariants as sized
-use Rattle.files.specs.declared.position.Sought.TheVariants as sought
 use Rattle.files.specs.Table.{held, file, find_of, size_of}
 use Rattle.files.specs.Seek.{whence_of, seek_of, Seek}
 use Rattle.files.proofs.Cases as cases
 use Rattle.files.proofs.Tests.{ltb_cases, leb_cases}
 use Rattle.grow.specs.Setting.{State}
-use Rattle.reading.specs.declared.Reading.TheVariants as reading
 use Rattle.reading.specs.Calls.{asked_of, read_of, stretch_of, stretch_bytes, placed_code, FilePosition}
 use Rattle.reading.specs.inner.Bounds.{file_position}
 use Rattle.reading.proofs.Plain as reads

@@ -16,7 +16,6 @@ use Rattle.window.specs.inner.Facts.{ValidWindow, scope}
 use Rattle.alloc.specs.Visits.{seen_in}
 use Rattle.alloc.specs.inner.Facts.{Ready}
 use Rattle.alloc.proofs.Turning.{allocating, answers_block}
-use Rattle.trials.specs.Loop.{Block}
 use Rattle.grow.specs.declared.Growth.{Growth}
 use Rattle.grow.specs.declared.Growth.TheVariants.{Full, Damaged}
 use Rattle.grow.specs.declared.Grew.{Grew}

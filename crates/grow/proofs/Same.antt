@@ -21,7 +21,7 @@ use Rattle.window.specs.declared.Answer.TheVariants as answer
 use Rattle.window.specs.Allocate.{alloc_of}
 use Rattle.window.specs.inner.Facts.{ValidWindow, scope}
 use Rattle.alloc.specs.Visits.{seen_in}
-use Rattle.trials.specs.Trial.{Trial, Ending, Whole, Fault, Refused, ends, whole, taken_by}
+use Rattle.trials.specs.Trial.{Trial, Ending, Whole, Fault, ends, whole, taken_by}
 use Rattle.trials.specs.Loop.{Took, Block, None, Bad, Flash, WriteOut, write_by, Candidate}
 use Rattle.trials.proofs.Laws.{at, taken_all, taken_none, taken_empty, done_law, none_law, bad_law, passed_law, whole_law, refused_law, fault_law, try_at}
 use Rattle.trials.proofs.Falls.{Falls}

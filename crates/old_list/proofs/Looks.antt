@@ -4,7 +4,7 @@ use mathlib.Core.Bool.{true, false, ◌&&◌}
 use mathlib.Core.List.{List, [], ◌∷◌, ◌++◌}
 use Prim.Native.Nat.{ℕ, suc, ◌+◌, ◌-◌, ◌^◌, ◌≤◌, ◌<◌}
 use native.Mathlib.Omega.{arith}
-use Rattle.layout.specs.Layout.{index_at, offset_at, start}
+use Rattle.layout.specs.Layout.{index_at, offset_at}
 use Rattle.layout.specs.inner.Served.{Served, block_list}
 use Rattle.layout.proofs.Served.{served, index_below}
 use Rattle.card.specs.Card.{pointer}

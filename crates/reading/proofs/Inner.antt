@@ -15,7 +15,7 @@ use Rattle.ctz.specs.declared.Found.{Found}
 use Rattle.ctz.specs.declared.Found.TheVariants as found
 use Rattle.ctz.specs.Lookup.{walk_to}
 use Rattle.ctz.specs.inner.Bounds.{ListFacts}
-use Rattle.plain.specs.Reading.{Part, part_of, stretch_in, Bytes, gather, read_in, Gathered}
+use Rattle.plain.specs.Reading.{part_of, stretch_in, gather, read_in, Gathered}
 use Rattle.plain.specs.inner.Forms.{range}
 use Rattle.plain.proofs.Reading.{stretch_past}
 use Rattle.finding.specs.inner.Bounds.{Ranged}

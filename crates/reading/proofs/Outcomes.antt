@@ -10,7 +10,7 @@ use lib.Seq.{sets, length-sets}
 use Rattle.span.proofs.Runs.{get_d_sets_after}
 use Rattle.layout.specs.inner.Served.{geometry}
 use Rattle.card.specs.inner.Cards.{card_with}
-use Rattle.plain.specs.Reading.{Bytes, Gathered}
+use Rattle.plain.specs.Reading.{Gathered}
 use Rattle.files.specs.declared.Table.{Table}
 use Rattle.finding.proofs.Gathers.{Gave, copied, damaged}
 use Rattle.reading.specs.declared.Asked.{Asked}

@@ -15,7 +15,7 @@ use Rattle.card.specs.inner.Cards.{card_with}
 use Rattle.ctz.specs.Lists.{SoundList}
 use Rattle.ctz.proofs.Sounds.{at}
 use Rattle.plain.specs.Bytes.{bytes}
-use Rattle.plain.specs.Reading.{Part, Given, Bytes, stretch_in}
+use Rattle.plain.specs.Reading.{Part, Given, stretch_in}
 use Rattle.plain.specs.inner.Forms.{GoodList}
 use Rattle.plain.proofs.Files.{bytes_length}
 use Rattle.plain.proofs.Reading.{read_sound, stretch_past, stretch_place, stretch_sound}

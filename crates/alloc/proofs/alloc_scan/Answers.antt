@@ -1,6 +1,5 @@
 -- `alloc::alloc_scan` meets its contract: what is left of the scan, from the window as it stands, comes to what the whole scan does. Assumes nothing.
 use mathlib.Core.Path.{refl, ◌∙◌}
-use Prim.Native.Nat.{◌-◌}
 use native.Mathlib.Omega.{arith}
 use Rattle.files.proofs.Laws.{slots_ok, count_ok, table_valid}
 use Rattle.window.proofs.Valid.{good}

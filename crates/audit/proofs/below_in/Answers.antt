@@ -1,6 +1,6 @@
 -- `audit::below_in` meets its contract: after i turns the number is the one that lies i indexes below. Assumes nothing.
 use mathlib.Core.Path.{◌≡◌, sym, ap, ◌∙◌}
-use Prim.Native.Nat.{ℕ, ◌-◌}
+use Prim.Native.Nat.{ℕ}
 use native.Mathlib.Omega.{arith}
 use Rattle.card.specs.Card.{pointer}
 use Rattle.ctz.specs.Lists.{down}

@@ -2,7 +2,7 @@
 -- from here with those numbers. Assumes nothing.
 use mathlib.Core.Path.{◌≡◌}
 use mathlib.Core.List.{List, []}
-use Prim.Native.Nat.{ℕ, ◌-◌}
+use Prim.Native.Nat.{ℕ}
 use Rattle.card.specs.Card.{pointer}
 use Rattle.ctz.specs.inner.Forms.{pointers_with}
 use Rattle.audit.specs.Check.{falls}

@@ -1,6 +1,5 @@
 -- `files::search` meets its contract. The invariant: the search among all files is the search among those from `i` on. Assumes nothing.
 use mathlib.Core.Path.{refl, sym, ◌∙◌}
-use Prim.Native.Nat.{◌-◌}
 use native.Mathlib.Omega.{arith}
 use Rattle.files.proofs.Laws.{slots_ok, count_ok}
 use Rattle.files.proofs.Turns.{search_here, search_on, search_end}

@@ -1,8 +1,6 @@
 -- `files::valid_table` meets its contract. The loop's invariant: the whole table's test is that of the files from `i` on. Assumes nothing.
 use mathlib.Core.Path.{refl, sym, ◌∙◌}
-use Prim.Native.Nat.{◌-◌}
 use native.Mathlib.Omega.{arith}
-use lib.ListN.{length-map}
 use Rattle.files.proofs.Laws.{entry_good, files_turn, files_end, count_out, table_is}
 use borrow.Author.Rules.{rules}
 use Rattle.files.proofs.valid_table.Goals as goal

@@ -1,6 +1,6 @@
 -- `health::merged` meets its contract: a turn passes one byte of each run. Assumes nothing.
 use mathlib.Core.Path.{refl}
-use Prim.Native.Nat.{◌+◌, ◌-◌, ◌*◌}
+use Prim.Native.Nat.{◌+◌, ◌*◌}
 use native.Mathlib.Omega.{arith}
 use Rattle.health.proofs.Runs.{passed_none, passed_turn, passed_all}
 use borrow.Author.Rules.{rules}

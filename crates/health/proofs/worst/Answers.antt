@@ -1,6 +1,5 @@
 -- `health::worst` meets its contract: the largest byte passed decides for all of them. Assumes nothing.
 use mathlib.Core.Path.{refl, sym, ◌∙◌}
-use Prim.Native.Nat.{◌-◌}
 use Rattle.health.proofs.Health.{turn_kept, turn_worse, turns_done}
 use borrow.Author.Rules.{rules}
 use Rattle.health.proofs.worst.Goals as goal

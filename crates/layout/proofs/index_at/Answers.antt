@@ -1,9 +1,7 @@
 -- `layout::index_at` meets its contract: where the first quotient is 0 the position lies in block 0, else the second quotient is its index (`Served`).
 -- Assumes nothing.
 use mathlib.Core.Path.{sym}
-use Prim.Native.Nat.{◌+◌, ◌-◌, ◌*◌, ◌/◌, ◌≤◌}
 use native.Mathlib.Omega.{arith}
-use lib.Count.{ones}
 use Rattle.layout.proofs.Served as served
 use Rattle.layout.proofs.index_at.Goals as goal
 

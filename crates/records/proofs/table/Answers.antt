@@ -1,5 +1,4 @@
 -- `records::table` meets its contract. The invariant: the files so far are in the slots. Assumes nothing.
-use Prim.Native.Nat.{◌-◌}
 use Rattle.records.proofs.Tables.{filled_start, filled_turn, filled_end, too_many}
 use Rattle.records.proofs.table.Goals as goal
 

@@ -1,6 +1,5 @@
 -- `span::copy` meets its contract: after i turns the first i bytes stand in their place. Assumes nothing.
 use mathlib.Core.Path.{◌≡◌, refl}
-use Prim.Native.Nat.{◌-◌}
 use native.Mathlib.Omega.{arith}
 use lib.ListN.{length-set}
 use Rattle.span.proofs.Runs.{copy_turn}

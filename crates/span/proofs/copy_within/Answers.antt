@@ -1,7 +1,6 @@
 -- `span::copy_within` meets its contract: after i turns the first i bytes stand in their place, and the byte to be read next
 -- was not stored to. Assumes nothing.
 use mathlib.Core.Path.{◌≡◌, refl}
-use Prim.Native.Nat.{◌-◌}
 use native.Mathlib.Omega.{arith}
 use lib.ListN.{length-set}
 use Rattle.span.proofs.Runs.{within_turn}

@@ -1,6 +1,5 @@
 -- `span::fill` meets its contract: after i turns the first i bytes are filled. Assumes nothing.
 use mathlib.Core.Path.{◌≡◌, refl}
-use Prim.Native.Nat.{◌-◌}
 use native.Mathlib.Omega.{arith}
 use lib.ListN.{length-set}
 use Rattle.span.proofs.Runs.{fill_turn}

@@ -1,6 +1,6 @@
 -- `ctz::run::find_run` meets its contract. The loop's invariant: the blocks of the indexes passed are known. Assumes nothing.
 use mathlib.Core.Path.{◌≡◌}
-use Prim.Native.Nat.{◌-◌, ◌≤◌}
+use Prim.Native.Nat.{◌≤◌}
 use lib.ListN.{length}
 use Rattle.card.specs.Card.{pointer}
 use Rattle.ctz.specs.inner.Runs.{RunFound}

@@ -1,6 +1,5 @@
 -- `files::change::append` meets its contract. The invariant: all the stores are those still to be made on what is there. Assumes nothing.
 use mathlib.Core.Path.{refl, ◌∙◌}
-use Prim.Native.Nat.{◌-◌}
 use native.Mathlib.Omega.{arith}
 use Rattle.files.proofs.Turns.{append_on, append_end}
 use borrow.Author.Rules.{rules}

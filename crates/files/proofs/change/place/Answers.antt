@@ -1,6 +1,5 @@
 -- `files::change::place` meets its contract. The invariant: the files passed, and those before the number among the rest. Assumes nothing.
 use mathlib.Core.Path.{sym, ◌∙◌}
-use Prim.Native.Nat.{◌-◌}
 use native.Mathlib.Omega.{arith}
 use Rattle.files.proofs.Laws.{slots_ok, count_ok}
 use Rattle.files.proofs.Turns.{place_here, place_on, place_end}

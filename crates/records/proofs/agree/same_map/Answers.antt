@@ -1,6 +1,5 @@
 -- `records::agree::same_map` meets its contract: whether the bits from the next one on agree answers the whole. Assumes nothing.
 use mathlib.Core.Path.{◌∙◌, sym}
-use Prim.Native.Nat.{◌-◌}
 use native.Mathlib.Omega.{arith}
 use Rattle.records.proofs.Agreeing.{maps_end, maps_turn, maps_differ}
 use Rattle.records.proofs.agree.same_map.Goals as goal

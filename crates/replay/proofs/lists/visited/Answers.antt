@@ -1,6 +1,5 @@
 -- `lists::visited` meets its contract: what is left of the visit answers the whole. Assumes nothing.
 use mathlib.Core.Path.{◌∙◌, sym, refl}
-use Prim.Native.Nat.{◌-◌}
 use Rattle.replay.proofs.Listed.{step_is, step_damaged, step_refused, last_other, last_same, more_other, more_same, none_left}
 use borrow.Author.Rules.{rules}
 use Rattle.replay.proofs.lists.visited.Goals as goal

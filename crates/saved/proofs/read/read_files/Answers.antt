@@ -1,6 +1,5 @@
 -- `saved::read::read_files` meets its contract. The invariant: the files read so far are in the slots, and the rest of the bytes is still to be read. Assumes nothing.
 use mathlib.Core.Path.{◌∙◌}
-use Prim.Native.Nat.{◌-◌}
 use native.Mathlib.Omega.{arith}
 use Rattle.saved.proofs.Files.{entry_small, filled_start, filled_damaged, filled_turn, filled_trailing, filled_done}
 use Rattle.saved.proofs.read.read_files.Goals as goal

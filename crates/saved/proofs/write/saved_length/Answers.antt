@@ -1,6 +1,5 @@
 -- `saved::write::saved_length` meets its contract. The invariant: the bytes counted and those of the files left are all. Assumes nothing.
 use mathlib.Core.Path.{refl, ap}
-use Prim.Native.Nat.{◌-◌}
 use native.Mathlib.Omega.{arith}
 use lib.ListN.{length}
 use Rattle.files.proofs.Laws.{slots_ok, count_ok}

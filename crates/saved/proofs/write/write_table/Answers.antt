@@ -1,6 +1,5 @@
 -- `saved::write::write_table` meets its contract. The invariant: all the stores are those still to be made on what is there. Assumes nothing.
 use mathlib.Core.Path.{refl, ◌∙◌}
-use Prim.Native.Nat.{◌-◌}
 use native.Mathlib.Omega.{arith}
 use Rattle.files.proofs.Laws.{slots_ok, count_ok}
 use Rattle.saved.proofs.Stores.{length_turn, files_turn, save_length, save_end}

@@ -1,6 +1,5 @@
 -- `window::map::next_free` meets its contract: what is left of the search answers the whole search. Assumes nothing.
 use mathlib.Core.Path.{◌∙◌, sym}
-use Prim.Native.Nat.{◌-◌}
 use Rattle.window.proofs.Search.{free_marked, free_clear, free_end}
 use Rattle.window.proofs.map.next_free.Goals as goal
 
