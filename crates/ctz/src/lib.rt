@@ -45,6 +45,7 @@ pub fn power(x: u32) -> u32
 }
 
 // The walk from index top, whose block is head, to index tgt, with the offset that it is to answer.
+#[tactic(auto, using(crate::proofs::Walked::walk_damaged))]
 fn walk_to(b: u32, n: u32, image: &[u8], off: u32, tgt: u32, top: u32, head: u32) -> Found
     requires { Walks b n top (length image.now) }
     ensures { result ≡ walk (suc top) (pointers_with n (pointer b image.now)) (target tgt off) (stand top head 0) }
@@ -52,7 +53,7 @@ fn walk_to(b: u32, n: u32, image: &[u8], off: u32, tgt: u32, top: u32, head: u32
     let mut cur = top;
     let mut k = head;
     let mut hops: u32 = 0;
-    loop {
+    'hop: loop {
         if n <= k {
             return Found::Damaged;
         }

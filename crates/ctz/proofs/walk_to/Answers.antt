@@ -5,37 +5,34 @@ use Prim.Native.Nat.{suc, ◌+◌, ◌-◌, ◌≤◌, ◌<◌}
 use native.Mathlib.Nat.{sub-zero}
 use native.Mathlib.Omega.{arith}
 use Rattle.ctz.proofs.Room.{asked}
-use Rattle.ctz.proofs.Walked.{walk_damaged, walk_at, walk_hop, pick_stored, pick_width, jump_down}
+use Rattle.ctz.proofs.Walked.{walk_at, walk_hop, pick_stored, pick_width, jump_down}
 use Rattle.ctz.proofs.walk_to.Goals as goal
 
-pub loop-k-init : goal.loop-k-init
-loop-k-init c = (omega arith, rw sub-zero refl)
-
-pub returns-then-n-k : goal.returns-then-n-k
-returns-then-n-k c = sym (c.loop-k.invariant.1 ∙ walk_damaged _ _ _ _ _ _ _ _ c.if-n-k.true)
+pub hop-init : goal.hop-init
+hop-init c = (omega arith, rw sub-zero refl)
 
 pub returns-then-cur-tgt : goal.returns-then-cur-tgt
-returns-then-cur-tgt c = sym (c.loop-k.invariant.1 ∙ walk_at _ _ _ _ _ _ _ _ c.if-n-k.false c.if-cur-tgt.true)
+returns-then-cur-tgt c = sym (c.hop.invariant.1 ∙ walk_at _ _ _ _ _ _ _ _ (omega arith) c.if-cur-tgt.true)
 
 pub skip-x-requires : goal.skip-x-requires
 skip-x-requires c = c.if-cur-tgt.false
 
 pub pointer-k-requires : goal.pointer-k-requires
 pointer-k-requires c =
-    let l = c.loop-k in
+    let l = c.hop in
     asked {i = l.cur} c.requires (omega arith) (omega arith)
-    (omega (arith, c.skip-x.ensures, pick_stored l.cur c.args.tgt)) c.if-n-k.false
+    (omega (arith, c.skip-x.ensures, pick_stored l.cur c.args.tgt)) (omega arith)
 
 pub power-cur-requires : goal.power-cur-requires
 power-cur-requires c =
-    let l = c.loop-k in
+    let l = c.hop in
     let a = c.args in
     omega (arith, c.skip-x.ensures, pick_width l.cur a.tgt)
 
 pub overflow_sub-cur : goal.overflow_sub-cur
 overflow_sub-cur c =
-    let falls : (0 < c.power-cur.result) × (c.args.tgt + c.power-cur.result ≤ c.loop-k.cur) =
-    let l = c.loop-k in
+    let falls : (0 < c.power-cur.result) × (c.args.tgt + c.power-cur.result ≤ c.hop.cur) =
+    let l = c.hop in
     jump_down l.cur c.args.tgt _ _ c.skip-x.ensures c.power-cur.ensures c.if-cur-tgt.false
     (omega (arith, l.invariant.0, c.ranges.top.fits)) in
     omega (arith, falls)
@@ -43,21 +40,21 @@ overflow_sub-cur c =
 pub overflow_add-hops : goal.overflow_add-hops
 overflow_add-hops c = omega arith
 
-pub loop-k-smaller : goal.loop-k-smaller
-loop-k-smaller c =
-    let falls : (0 < c.power-cur.result) × (c.args.tgt + c.power-cur.result ≤ c.loop-k.cur) =
-    let l = c.loop-k in
+pub hop-smaller : goal.hop-smaller
+hop-smaller c =
+    let falls : (0 < c.power-cur.result) × (c.args.tgt + c.power-cur.result ≤ c.hop.cur) =
+    let l = c.hop in
     jump_down l.cur c.args.tgt _ _ c.skip-x.ensures c.power-cur.ensures c.if-cur-tgt.false
     (omega (arith, l.invariant.0, c.ranges.top.fits)) in
     omega (arith, falls)
 
-pub loop-k-preserved : goal.loop-k-preserved
-loop-k-preserved c =
-    let falls : (0 < c.power-cur.result) × (c.args.tgt + c.power-cur.result ≤ c.loop-k.cur) =
-    let l = c.loop-k in
+pub hop-preserved : goal.hop-preserved
+hop-preserved c =
+    let falls : (0 < c.power-cur.result) × (c.args.tgt + c.power-cur.result ≤ c.hop.cur) =
+    let l = c.hop in
     jump_down l.cur c.args.tgt _ _ c.skip-x.ensures c.power-cur.ensures c.if-cur-tgt.false
     (omega (arith, l.invariant.0, c.ranges.top.fits)) in
-    let l = c.loop-k in
+    let l = c.hop in
     let fuel : c.args.top - l.hops ≡ suc (c.args.top - (l.hops + 1)) = omega (arith, falls) in
     let one : suc l.hops ≡ l.hops + 1 = omega arith in
-    (omega (arith, falls), l.invariant.1 ∙ walk_hop _ _ _ _ _ _ _ _ c.if-n-k.false c.if-cur-tgt.false ∙ cc)
+    (omega (arith, falls), l.invariant.1 ∙ walk_hop _ _ _ _ _ _ _ _ (omega arith) c.if-cur-tgt.false ∙ cc)

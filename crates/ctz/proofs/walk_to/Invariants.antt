@@ -7,9 +7,9 @@ use Rattle.ctz.specs.Lookup.{walk}
 use Rattle.ctz.specs.inner.Forms.{pointers_with, target, stand}
 use Rattle.ctz.proofs.walk_to.Given as goal
 
-abbrev pub invariant-loop-k : goal.invariant-loop-k
-invariant-loop-k l = (l.hops + l.cur ≤ l.top)
+abbrev pub invariant-hop : goal.invariant-hop
+invariant-hop l = (l.hops + l.cur ≤ l.top)
     × (walk (suc l.top) (pointers_with l.n (pointer l.b l.image)) (target l.tgt l.off) (stand l.top l.head 0) ≡ walk (suc (l.top - l.hops)) (pointers_with l.n (pointer l.b l.image)) (target l.tgt l.off) (stand l.cur l.k l.hops))
 
-abbrev pub decreases-loop-k : goal.decreases-loop-k
-decreases-loop-k l = l.cur - l.tgt
+abbrev pub decreases-hop : goal.decreases-hop
+decreases-hop l = l.cur - l.tgt

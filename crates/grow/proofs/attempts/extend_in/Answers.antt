@@ -22,4 +22,4 @@ returns-in-Done c =
 
 pub returns-in-Spoiled : goal.returns-in-Spoiled
 returns-in-Spoiled c =
-    absurd (good_takes _ _ _ _ _ _ _ c.if-health-k-ne0.false c.try_block-linked.ensures c.in-Spoiled.is)
+    absurd (good_takes _ _ _ _ _ _ _ (omega arith) c.try_block-linked.ensures c.in-Spoiled.is)
