@@ -5,7 +5,7 @@ ghost use Rattle.card.specs.inner.Cards.{CardFacts};
 ghost use Rattle.ctz.specs.Visits.{begin_of, step_of, traverse_of};
 ghost use Rattle.ctz.specs.inner.Forms.{pointers_with};
 
-use layout::{Geometry, Made};
+use layout::Geometry;
 
 // The index to hand over next and its block number; and the number of the index below it, where that was read already.
 #[repr(C)]
@@ -42,10 +42,9 @@ pub enum Step {
 pub fn ctz_visit(g: Geometry, head: u32, size: u32) -> Begun
     ensures { result ≡ begin_of g (record { head = head; size = size }) }
 {
-    let made = Geometry::new(g.block_size, g.block_count);
-    match made {
-        Made::Card(_) => {}
-        Made::Refused => {
+    match Geometry::new(g.block_size, g.block_count) {
+        Ok(_) => {}
+        Err(_) => {
             return Begun::Refused;
         }
     }

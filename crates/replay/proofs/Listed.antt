@@ -7,7 +7,9 @@ use native.Mathlib.Numerals.{add-one}
 use native.Mathlib.Omega.{arith}
 use borrow.Author.Tests.{eq-eqb, ne_eqb}
 use Rattle.layout.specs.declared.Geometry.{Geometry}
+use Rattle.std.specs.Prelude.{Result}
 use Rattle.layout.specs.declared.Place.{Place}
+use Rattle.layout.specs.declared.Refusal.{Refusal}
 use Rattle.layout.specs.Layout.{place_of}
 use Rattle.layout.specs.inner.Served.{block_list, geometry}
 use Rattle.card.specs.inner.Cards.{card_with}
@@ -26,7 +28,7 @@ use Rattle.records.specs.Records.{word_of, geometry_of, image_of}
 use Rattle.records.specs.Agreement.{bare_of, told_of}
 use Rattle.replay.specs.Lists.{index_equal, lookup_on, find_equal, step_on, visited_of, begun_equal, visit_on, visit_equal}
 
-pub index_is : (list : List ℕ) (at b p code : ℕ) (f : Place) (a : TidIndex) (r : Bool) → b ≡ word_of list at 4 → p ≡ word_of list at 5 → f ≡ place_of b p → a ≡ place_told f
+pub index_is : (list : List ℕ) (at b p code : ℕ) (f : Result Place Refusal) (a : TidIndex) (r : Bool) → b ≡ word_of list at 4 → p ≡ word_of list at 5 → f ≡ place_of b p → a ≡ place_told f
     → code ≡ bare_of a.code
     → r ≡ told_of list at code a.index a.offset 0
     → r ≡ index_equal list at

@@ -1,7 +1,8 @@
 -- The answers of the list calls as they are exported: 01's number and values for each case, and zeros beside a refusal.
-use Rattle.std.specs.Prelude.{Bool, true, false, not, ℕ, eqb}
+use Rattle.std.specs.Prelude.{Bool, true, false, not, Result, Ok, Err, ℕ, eqb}
 use Rattle.layout.specs.declared.Place.{Place}
-use Rattle.layout.specs.declared.Place.TheVariants as place
+use Rattle.layout.specs.declared.Refusal.{Refusal}
+use Rattle.layout.specs.Refusals.{refusal_code}
 use Rattle.layout.specs.Numbers.{accepted, invalid, damaged_card}
 use Rattle.ctz.specs.declared.Found.{Found}
 use Rattle.ctz.specs.declared.Found.TheVariants as found
@@ -21,9 +22,9 @@ use Rattle.told_lists.specs.declared.TidVisit.{TidVisit}
 use Rattle.told_lists.specs.declared.TidStep.{TidStep}
 use Rattle.told_lists.specs.declared.TidCheck.{TidCheck}
 
-abbrev pub place_told : Place → TidIndex
-place_told (place.At index offset) = record { code = accepted; index = index; offset = offset }
-place_told place.Refused = record { code = invalid; index = 0; offset = 0 }
+abbrev pub place_told : Result Place Refusal → TidIndex
+place_told (Ok p) = record { code = accepted; index = p.index; offset = p.offset }
+place_told (Err r) = record { code = refusal_code r; index = 0; offset = 0 }
 
 abbrev pub found_told : Found → TidFind
 found_told (found.At block offset hops) = record { code = accepted; block = block; offset = offset; hops = hops }

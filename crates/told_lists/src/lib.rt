@@ -7,7 +7,7 @@ ghost use Rattle.told_lists.specs.Lists.{place_told, found_told, place_asked, he
 use audit::{Checked, Fault};
 use ctz::Found;
 use ctz::visit::{Begun, Step, Visit};
-use layout::Place;
+use layout::{Place, Refusal};
 
 #[repr(C)]
 #[derive(Clone, Copy)]
@@ -17,17 +17,17 @@ pub struct TidIndex {
     pub offset: u32,
 }
 
-pub fn place_told(p: Place) -> TidIndex
+pub fn place_told(p: Result<Place, Refusal>) -> TidIndex
     ensures { result ≡ place_told p }
 {
     match p {
-        Place::At { index, offset } => TidIndex {
+        Ok(Place { index, offset }) => TidIndex {
             code: 0,
-            index: index,
-            offset: offset,
+            index,
+            offset,
         },
-        Place::Refused => TidIndex {
-            code: -22,
+        Err(refusal) => TidIndex {
+            code: refusal.code(),
             index: 0,
             offset: 0,
         },

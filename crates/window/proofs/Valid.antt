@@ -7,7 +7,8 @@ use native.Mathlib.Omega.{arith}
 use borrow.Author.Tests.{ltb-true, leb-true, lt-ltb, le-ltb, le-leb, lt-leb}
 use lib.Dec.{leb}
 use Rattle.layout.specs.declared.Geometry.{Geometry}
-use Rattle.layout.specs.declared.Made.TheVariants as made
+use Rattle.std.specs.Prelude.{Ok, Err}
+use Rattle.layout.specs.declared.Refusal.{Refusal}
 use Rattle.layout.specs.Geometry.{size_fits, count_fits, card_fits}
 use Rattle.layout.specs.inner.Served.{geometry}
 use Rattle.layout.specs.inner.Made.{made_of}
@@ -96,10 +97,10 @@ sizes g l e =
     looks N l (leb-true _ _ count.0) (leb-true _ _ count.1) all.1
 
 -- what `Geometry::new` answers leaves the test of L, or none
-pub sizes_made : (h : Geometry) (l : ℕ) (g : Geometry) → made_of (geometry h.block_size h.block_count) ≡ made.Card g → lookahead_fits l ≡ sizes_fit h l
+pub sizes_made : (h : Geometry) (l : ℕ) (g : Geometry) → made_of (geometry h.block_size h.block_count) ≡ Ok g → lookahead_fits l ≡ sizes_fit h l
 unfolding sizes_fit
 sizes_made h l g e = rw (made_fits h.block_size h.block_count g e)
 
-pub sizes_refused : (h : Geometry) (l : ℕ) → made_of (geometry h.block_size h.block_count) ≡ made.Refused → false ≡ sizes_fit h l
+pub sizes_refused : (h : Geometry) (l : ℕ) (r : Refusal) → made_of (geometry h.block_size h.block_count) ≡ Err r → false ≡ sizes_fit h l
 unfolding sizes_fit
-sizes_refused h l e = rw (refused_fits h.block_size h.block_count e)
+sizes_refused h l r e = rw (refused_fits h.block_size h.block_count r e)

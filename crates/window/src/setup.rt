@@ -3,7 +3,7 @@ ghost use Rattle.std.specs.Prelude.{◌≡◌};
 ghost use Rattle.window.specs.Value.{sizes_fit, fresh_reply, checkpoint_reply, dropped_reply};
 
 use crate::Lookahead;
-use layout::{Geometry, Made};
+use layout::Geometry;
 
 // What these calls answer.
 #[derive(Clone, Copy)]
@@ -23,10 +23,9 @@ pub struct Replied {
 pub fn valid_sizes(g: Geometry, l: u32) -> bool
     ensures { result ≡ sizes_fit g l }
 {
-    let made = Geometry::new(g.block_size, g.block_count);
-    match made {
-        Made::Card(_) => crate::valid_lookahead(l),
-        Made::Refused => false,
+    match Geometry::new(g.block_size, g.block_count) {
+        Ok(_) => crate::valid_lookahead(l),
+        Err(_) => false,
     }
 }
 

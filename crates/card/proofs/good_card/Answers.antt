@@ -7,11 +7,11 @@ use Rattle.card.proofs.good_card.Goals as goal
 pub overflow_mul-result : goal.overflow_mul-result
 overflow_mul-result c =
     let g = c.args.g in
-    omega (arith, made_small g.block_size g.block_count c.in-Card.field-0 (sym c.new-made.ensures ∙ c.in-Card.is))
+    omega (arith, made_small g.block_size g.block_count c.in-Ok.field-0 (sym c.new.ensures ∙ c.in-Ok.is))
 
-pub returns-in-Card : goal.returns-in-Card
-returns-in-Card c =
-    good_made _ _ _ _ (sym c.new-made.ensures ∙ c.in-Card.is)
+pub returns-in-Ok : goal.returns-in-Ok
+returns-in-Ok c =
+    good_made _ _ _ _ (sym c.new.ensures ∙ c.in-Ok.is)
 
-pub returns-in-Refused : goal.returns-in-Refused
-returns-in-Refused c = good_refused _ _ _ (sym c.new-made.ensures ∙ c.in-Refused.is)
+pub returns-in-Err : goal.returns-in-Err
+returns-in-Err c = good_refused _ _ _ _ (sym c.new.ensures ∙ c.in-Err.is)
