@@ -29,7 +29,7 @@ pub fn program(
     }
     let a = k as usize * b as usize;
     let e = a + b as usize;
-    span::copy_long(&mut image[a..e], off as usize, src, from, n);
+    span::copy(&mut image[a..e], off as usize, src, from, n);
     Programmed::Stored
 }
 

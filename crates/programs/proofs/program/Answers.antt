@@ -17,4 +17,4 @@ returns c =
     let vs = take a.n (drop a.from a.src.now) in
     gives_stored a.health.now a.b a.k a.off vs a.image.now _ (cc)
     (lent_block a.b a.k a.off vs a.image.now _ c.requires.0.inside
-    (simp (length-take, length-drop) (omega arith)) c.copy_long.ensures)
+    (simp (length-take, length-drop) (omega arith)) c.copy.ensures)
