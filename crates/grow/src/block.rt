@@ -5,7 +5,7 @@ ghost use Rattle.device.specs.inner.Bounds.{Blank};
 ghost use Rattle.grow.specs.inner.Attempt.{attempt_of, try_of, LinkGives, Linking, put_pointers};
 
 use crate::Growth;
-use device::{Erased, Programmed};
+use device::Spoiled;
 
 // What a try with one block gives: the growth's answer, or that the block refused.
 #[derive(Clone, Copy)]
@@ -35,12 +35,8 @@ fn put_pointers(
         if n <= cur {
             return Linked::Done(Growth::Damaged);
         }
-        let put = programs::program_word(image, health, b, k, 4 * x, cur);
-        match put {
-            Programmed::Stored => {}
-            Programmed::Refused => {
-                return Linked::Spoiled;
-            }
+        if programs::program_word(image, health, b, k, 4 * x, cur).is_err() {
+            return Linked::Spoiled;
         }
         cur = card::pointer(&image[..], b, cur, x);
         x += 1;
@@ -74,13 +70,12 @@ fn link(image: &mut [u8], health: &[u8], b: u32, n: u32, k: u32, head: u32, size
         let count = layout::pointer_count(index + 1);
         return put_pointers(image, health, b, n, k, count, head);
     }
-    let put = programs::program_copy(image, health, b, k, 0, head, 0, used);
-    match put {
-        Programmed::Stored => Linked::Done(Growth::Grown {
+    match programs::program_copy(image, health, b, k, 0, head, 0, used) {
+        Ok(()) => Linked::Done(Growth::Grown {
             block: k,
             offset: used,
         }),
-        Programmed::Refused => Linked::Spoiled,
+        Err(Spoiled) => Linked::Spoiled,
     }
 }
 
@@ -99,9 +94,8 @@ pub fn try_block(
         (try_of health.now b n k head size image.old)
         result image.new }
 {
-    let erased = device::erase(image, health, b, k);
-    match erased {
-        Erased::Wiped => link(image, health, b, n, k, head, size),
-        Erased::Kept => Linked::Spoiled,
+    match device::erase(image, health, b, k) {
+        Ok(()) => link(image, health, b, n, k, head, size),
+        Err(_) => Linked::Spoiled,
     }
 }

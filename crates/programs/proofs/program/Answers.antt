@@ -1,20 +1,15 @@
--- `programs::program` meets its contract: a block that does not refuse is lent, and the bytes are copied into it. Assumes nothing.
-use native.Mathlib.Omega.{arith}
-use lib.ListN.{take, drop, length-take, length-drop}
-use Rattle.device.proofs.Steps.{gives_refused, gives_stored}
-use Rattle.device.proofs.Bounds.{lent_block}
+-- `programs::program` meets its contract: the bytes go to their place, if the block takes them. Assumes nothing.
+use mathlib.Core.Path.{sym, ◌∙◌}
+use lib.ListN.{take, drop}
+use Rattle.programs.proofs.Places.{place_refused, place_stored}
 use Rattle.programs.proofs.program.Goals as goal
 
-pub returns-then-refuses_program : goal.returns-then-refuses_program
-returns-then-refuses_program c =
+pub returns-in_err-at : goal.returns-in_err-at
+returns-in_err-at c =
     let a = c.args in
-    let vs = take a.n (drop a.from a.src.now) in
-    gives_refused a.health.now a.b a.k a.off vs a.image.now (cc)
+    place_refused a.health.now a.b a.k a.off (take a.n (drop a.from a.src.now)) a.image.now (sym c.place.ensures ∙ c.in_err-at.was) c.from_residual.ensures.0
 
 pub returns : goal.returns
 returns c =
     let a = c.args in
-    let vs = take a.n (drop a.from a.src.now) in
-    gives_stored a.health.now a.b a.k a.off vs a.image.now _ (cc)
-    (lent_block a.b a.k a.off vs a.image.now _ c.requires.0.inside
-    (simp (length-take, length-drop) (omega arith)) c.copy_long.ensures)
+    place_stored a.health.now a.b a.k a.off (take a.n (drop a.from a.src.now)) a.image.now (sym c.place.ensures ∙ c.in_ok-at.was) c.copy.ensures

@@ -1,19 +1,15 @@
--- `programs::program_word` meets its contract: a block that does not refuse is lent, and the word is put into it. Assumes nothing.
+-- `programs::program_word` meets its contract: the word is put into the block, if it takes it. Assumes nothing.
+use mathlib.Core.Path.{sym, ◌∙◌}
 use Rattle.span.specs.Words.{bytes32}
-use Rattle.span.proofs.Words.{length_bytes32}
-use Rattle.device.proofs.Steps.{gives_refused, gives_stored}
-use Rattle.device.proofs.Bounds.{lent_block}
+use Rattle.programs.proofs.Places.{place_refused, place_stored}
 use Rattle.programs.proofs.program_word.Goals as goal
 
-pub returns-then-refuses_program : goal.returns-then-refuses_program
-returns-then-refuses_program c =
+pub returns-in_err-at : goal.returns-in_err-at
+returns-in_err-at c =
     let a = c.args in
-    let vs = bytes32 a.v in
-    gives_refused a.health.now a.b a.k a.off vs a.image.now (cc)
+    place_refused a.health.now a.b a.k a.off (bytes32 a.v) a.image.now (sym c.place.ensures ∙ c.in_err-at.was) c.from_residual.ensures.0
 
 pub returns : goal.returns
 returns c =
     let a = c.args in
-    let vs = bytes32 a.v in
-    gives_stored a.health.now a.b a.k a.off vs a.image.now _ (cc)
-    (lent_block a.b a.k a.off vs a.image.now _ c.requires.0.inside (rw length_bytes32 c.requires.0.room) c.put_word.ensures)
+    place_stored a.health.now a.b a.k a.off (bytes32 a.v) a.image.now (sym c.place.ensures ∙ c.in_ok-at.was) c.put_word.ensures

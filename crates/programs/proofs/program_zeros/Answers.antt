@@ -1,20 +1,15 @@
--- `programs::program_zeros` meets its contract: a block that does not refuse is lent, and zeros are filled in. Assumes nothing.
-use mathlib.Core.List.{List}
-use Prim.Native.Nat.{ℕ}
-use lib.ListN.{replicate, length-replicate}
-use Rattle.device.proofs.Steps.{gives_refused, gives_stored}
-use Rattle.device.proofs.Bounds.{lent_block}
+-- `programs::program_zeros` meets its contract: zeros are filled in, if the block takes them. Assumes nothing.
+use mathlib.Core.Path.{sym, ◌∙◌}
+use lib.ListN.{replicate}
+use Rattle.programs.proofs.Places.{place_refused, place_stored}
 use Rattle.programs.proofs.program_zeros.Goals as goal
 
-pub returns-then-refuses_program : goal.returns-then-refuses_program
-returns-then-refuses_program c =
+pub returns-in_err-at : goal.returns-in_err-at
+returns-in_err-at c =
     let a = c.args in
-    let vs : List ℕ = replicate a.n 0 in
-    gives_refused a.health.now a.b a.k a.off vs a.image.now (cc)
+    place_refused a.health.now a.b a.k a.off (replicate a.n 0) a.image.now (sym c.place.ensures ∙ c.in_err-at.was) c.from_residual.ensures.0
 
 pub returns : goal.returns
 returns c =
     let a = c.args in
-    let vs : List ℕ = replicate a.n 0 in
-    gives_stored a.health.now a.b a.k a.off vs a.image.now _ (cc)
-    (lent_block a.b a.k a.off vs a.image.now _ c.requires.0.inside (rw length-replicate c.requires.0.room) c.fill.ensures)
+    place_stored a.health.now a.b a.k a.off (replicate a.n 0) a.image.now (sym c.place.ensures ∙ c.in_ok-at.was) c.fill.ensures

@@ -1,0 +1,2 @@
+-- The law of a program by its place.
+mod Places

@@ -1,0 +1,2 @@
+-- The definition that an inner contract of `programs` cites.
+pub mod Place
