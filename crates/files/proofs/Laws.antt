@@ -6,8 +6,8 @@ use Prim.Native.Nat.{ℕ, zero, suc, ◌+◌, ◌≤◌, ◌<◌}
 use native.Mathlib.Omega.{arith}
 use native.Mathlib.Numerals.{add-one}
 use borrow.Author.Tests.{leb-true, eqb-true, le-leb, lt-leb, eq-eqb, ne_eqb}
-use lib.ListN.{length, get_or}
-use lib.Seq.{slice, slice-cons, slice_empty, get_or-take, length-take-le}
+use lib.ListN.{length, get_or, drop, drop_of_length-le}
+use lib.Seq.{slice, slice_empty, drop-cons, get_or-take, length-take-le}
 use lib.Dec.{leb, eqb}
 use Rattle.layout.specs.Numbers.{files_max, number_max, size_max, null_block, head_max}
 use Rattle.files.specs.declared.Entry.{Entry}
@@ -143,18 +143,17 @@ table_valid t h =
     }
 
 -- the files from place i on: the first of them, then the rest
-module _ (fs : List Entry) (i count : ℕ) where
-  pub files_turn : (least : ℕ) → i < count → count ≤ length fs
-      → files_ok least (slice i count fs) ≡ (entry_ok least (get_or fs i no_entry) && files_ok ((get_or fs i no_entry).number + 1) (slice (i + 1) count fs))
-  unfolding files_ok
-  files_turn least h l = rw (slice-cons i count fs no_entry h l, add-one i, add-one (get_or fs i no_entry).number)
+pub files_turn : (es : List Entry) (i least : ℕ) → i < length es
+    → files_ok least (drop i es) ≡ (entry_ok least (get_or es i no_entry) && files_ok ((get_or es i no_entry).number + 1) (drop (i + 1) es))
+unfolding files_ok
+files_turn es i least h = rw (drop-cons es i no_entry h, add-one i, add-one (get_or es i no_entry).number)
 
-  pub slice_end : i ≤ count → count ≤ i → slice i count fs ≡ []
-  slice_end h l = let e : i ≡ count = omega arith in rw e (slice_empty count fs)
+pub files_end : (es : List Entry) (i least : ℕ) → length es ≤ i → files_ok least (drop i es) ≡ true
+unfolding files_ok
+files_end es i least h = rw (drop_of_length-le es h)
 
-  pub files_end : (least : ℕ) → i ≤ count → count ≤ i → files_ok least (slice i count fs) ≡ true
-  unfolding files_ok
-  files_end least h l = rw (slice_end h l)
+pub slice_end : (fs : List Entry) (i count : ℕ) → i ≤ count → count ≤ i → slice i count fs ≡ []
+slice_end fs i count h l = let e : i ≡ count = omega arith in rw e (slice_empty count fs)
 
 -- too many files
 pub count_out : (t : Table) → files_max < t.count → table_ok t ≡ false

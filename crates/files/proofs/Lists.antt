@@ -10,7 +10,8 @@ use lib.Seq.{slice, sets, set-append_seam, append_snoc, take-take, take-append_s
 use Rattle.layout.specs.Numbers.{files_max}
 use Rattle.files.specs.declared.Entry.{Entry}
 use Rattle.files.specs.declared.Table.{Table}
-use Rattle.files.specs.declared.Found.TheVariants as found
+use Rattle.std.specs.Prelude.{Result, Ok}
+use Rattle.layout.specs.declared.Refusal.{Refusal}
 use Rattle.files.specs.Table.{no_entry, held, table_of, files_ok, table_ok, search_of}
 use Rattle.files.specs.Change.{empty_file, insert_of, without_of}
 use Rattle.files.specs.inner.Facts.{append_of, slot_for}
@@ -70,7 +71,7 @@ pub record Stands (number i j : ℕ) (es without : List Entry) : Type 0 where
   pub named : (get_or es (j - i) no_entry).number ≡ number
   pub left : without ≡ take (j - i) es ++ drop (suc (j - i)) es
 
-stands_here : (number i j : ℕ) (e : Entry) (es : List Entry) → e.number ≡ number → found.At i ≡ found.At j → Stands number i j (e ∷ es) es
+stands_here : (number i j : ℕ) (e : Entry) (es : List Entry) → e.number ≡ number → ◌≡◌ {A = Result ℕ Refusal} (Ok i) (Ok j) → Stands number i j (e ∷ es) es
 stands_here number i j e es p q =
     let z : i ≡ j = cc in
     let d : j - i ≡ zero = omega arith in
@@ -86,12 +87,12 @@ stands_on number i j e es ws s =
       left = rw d (ap (λ (l : List Entry). e ∷ l) s.left);
     }
 
-pub stands : (number i j : ℕ) (es : List Entry) → search_of number es i ≡ found.At j → Stands number i j es (without_of number es)
+pub stands : (number i j : ℕ) (es : List Entry) → search_of number es i ≡ Ok j → Stands number i j es (without_of number es)
 unfolding search_of without_of
 stands number i j [] q = let z : ◌≡◌ {A = ℕ} 0 1 = cc in absurd (omega arith)
 stands number i j (e ∷ es) q =
     eqb_cases e.number number
-    (λ b. (elim b [ true ↦ found.At i | false ↦ search_of number es (suc i) ]) ≡ found.At j
+    (λ b. (elim b [ true ↦ Ok i | false ↦ search_of number es (suc i) ]) ≡ Ok j
     → Stands number i j (e ∷ es) (elim b [ true ↦ es | false ↦ e ∷ without_of number es ]))
     (λ p h. stands_here number i j e es p h)
     (λ p h. stands_on number i j e es (without_of number es) (stands number (suc i) j es h))

@@ -9,15 +9,14 @@ use lib.Seq.{take-set-lt, get_or-set_same, get_or-set_other, get_or-take}
 use Rattle.layout.specs.Numbers.{number_max, size_max, null_block, head_max}
 use Rattle.files.specs.declared.Entry.{Entry}
 use Rattle.files.specs.declared.Table.{Table}
-use Rattle.files.specs.declared.Found.TheVariants as found
-use Rattle.files.specs.declared.Sized.TheVariants as sized
+use Rattle.std.specs.Prelude.{Ok}
+use Rattle.layout.specs.declared.Refusal.TheVariants.{Missing, Invalid}
 use Rattle.files.specs.Table.{no_entry, held, file, files_ok, table_ok, search_of, find_of, size_of}
 use Rattle.files.specs.Change.{with_list}
 use Rattle.files.proofs.Tests.{leb_cases, eqb_cases}
 use Rattle.files.proofs.Laws.{first_good, rest_ok, join_ok, slots_ok, count_ok, held_ok, table_ok_lem, GoodEntry}
-use Rattle.files.proofs.Cases.{find_is, find_no_number, found_at, size_at, size_missing, size_refused}
+use Rattle.files.proofs.Cases.{find_is, find_no_number, found_at, size_at, size_refused, found_cases}
 use Rattle.files.proofs.Searches.{search_here, search_on}
-use Rattle.files.proofs.Kept.{found_cases}
 
 -- a size and a head that can stand in a table
 pub record Fitting (size head : ℕ) : Type 0 where
@@ -81,17 +80,17 @@ module _ (t : Table) (i size head : ℕ) (ok : table_ok t ≡ true) (below : i <
         (λ l. find_no_number (with_list t i (record { head = head; size = size })) m put_ok l ∙ sym (find_no_number t m ok l))
 
     -- the file has the new size, every other file the size that it had
-    pub put_size_own : (n : ℕ) → find_of t n ≡ found.At i → size_of (with_list t i (record { head = head; size = size })) n ≡ sized.Bytes size
+    pub put_size_own : (n : ℕ) → find_of t n ≡ Ok i → size_of (with_list t i (record { head = head; size = size })) n ≡ Ok size
     put_size_own n e =
         let u : Table = with_list t i (record { head = head; size = size }) in
-        sym (size_at u n (find_of u n) refl i (put_find n ∙ e)) ∙ ap (λ (x : Entry). sized.Bytes x.size) put_at
+        sym (size_at u n (find_of u n) refl i (put_find n ∙ e)) ∙ ap (λ (x : Entry). Ok x.size) put_at
 
     pub put_size_other : (m : ℕ) → ((file t i).number ≡ m → ⊥) → size_of (with_list t i (record { head = head; size = size })) m ≡ size_of t m
     put_size_other m d =
         let u : Table = with_list t i (record { head = head; size = size }) in
-        found_cases (find_of t m) (size_of u m ≡ size_of t m)
+        found_cases t m (size_of u m ≡ size_of t m)
         (λ j e.
         let k : file u j ≡ file t j = put_keeps t i size head j (λ q. d (ap (λ (x : ℕ). (file t x).number) (sym q) ∙ (found_at t m j e).named)) in
-        sym (size_at u m (find_of u m) refl j (put_find m ∙ e)) ∙ ap (λ (x : Entry). sized.Bytes x.size) k ∙ size_at t m (find_of t m) refl j e)
-        (λ e. sym (size_missing u m (find_of u m) refl (put_find m ∙ e)) ∙ size_missing t m (find_of t m) refl e)
-        (λ e. sym (size_refused u m (find_of u m) refl (put_find m ∙ e)) ∙ size_refused t m (find_of t m) refl e)
+        sym (size_at u m (find_of u m) refl j (put_find m ∙ e)) ∙ ap (λ (x : Entry). Ok x.size) k ∙ size_at t m (find_of t m) refl j e)
+        (λ e. sym (size_refused u m (find_of u m) refl Missing (put_find m ∙ e)) ∙ size_refused t m (find_of t m) refl Missing e)
+        (λ e. sym (size_refused u m (find_of u m) refl Invalid (put_find m ∙ e)) ∙ size_refused t m (find_of t m) refl Invalid e)

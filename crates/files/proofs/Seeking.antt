@@ -11,7 +11,8 @@ use mir.Syntax.{w32, w64}
 use mir.Val.{Fits, SFits, to_z, of_z}
 use mir.Facts.{to_z-of_z, to_z_pos}
 use Rattle.layout.specs.Numbers.{size_max}
-use Rattle.files.specs.declared.position.Sought.TheVariants as sought
+use Rattle.std.specs.Prelude.{Ok, Err}
+use Rattle.layout.specs.declared.Refusal.TheVariants.{Invalid}
 use Rattle.files.specs.Seek.{within_of, whence_of}
 use Rattle.files.proofs.Tests.{ltb_cases}
 use Rattle.files.proofs.Cases.{seeking}
@@ -26,12 +27,12 @@ mag_sum a (negsuc n) h k =
     ltb_cases a (suc n) (λ b. mag (cond b (negsuc (suc n - suc a)) (pos (a - suc n))) < 2 ^ 63) (λ l. omega arith) (λ l. omega arith)
 
 -- a sum below 0, above the largest size, and between
-pub within_below : (z : ℤ) → lt_z z (pos 0) ≡ true → sought.Refused ≡ within_of z
+pub within_below : (z : ℤ) → lt_z z (pos 0) ≡ true → (Err Invalid) ≡ within_of z
 unfolding within_of
 within_below (pos n) h = absurd (omega (arith, ltb-true n 0 h))
 within_below (negsuc n) h = refl
 
-pub within_above : (z : ℤ) → lt_z (pos size_max) z ≡ true → sought.Refused ≡ within_of z
+pub within_above : (z : ℤ) → lt_z (pos size_max) z ≡ true → (Err Invalid) ≡ within_of z
 unfolding within_of
 within_above (pos n) h = rw (within_of, lt-leb n size_max (ltb-true size_max n h))
 within_above (negsuc n) h = refl
@@ -39,7 +40,7 @@ within_above (negsuc n) h = refl
 pub record Within (z : ℤ) : Type 0 where
   pub positive : T (non_neg z)
   pub small : nat_abs z ≤ size_max
-  pub answer : sought.At (nat_abs z) ≡ within_of z
+  pub answer : Ok (nat_abs z) ≡ within_of z
 
 pub within_at : (z : ℤ) → lt_z z (pos 0) ≡ false → lt_z (pos size_max) z ≡ false → Within z
 unfolding within_of
@@ -65,10 +66,10 @@ module _ (base : ℕ) (offset : ℤ) (b : base < 2 ^ 32) (o : SFits w32 offset) 
   sum_read = to_z-of_z sum_fits ∙ sum_is
 
   -- the code's two tests of the sum
-  pub moved_below : lt_z (to_z w64 (of_z w64 (sum_of base offset))) (pos 0) ≡ true → sought.Refused ≡ within_of (pos base +ℤ offset)
+  pub moved_below : lt_z (to_z w64 (of_z w64 (sum_of base offset))) (pos 0) ≡ true → (Err Invalid) ≡ within_of (pos base +ℤ offset)
   moved_below h = within_below (pos base +ℤ offset) (rw sum_read at h)
 
-  pub moved_above : lt_z (pos size_max) (to_z w64 (of_z w64 (sum_of base offset))) ≡ true → sought.Refused ≡ within_of (pos base +ℤ offset)
+  pub moved_above : lt_z (pos size_max) (to_z w64 (of_z w64 (sum_of base offset))) ≡ true → (Err Invalid) ≡ within_of (pos base +ℤ offset)
   moved_above h = within_above (pos base +ℤ offset) (rw sum_read at h)
 
   pub moved_at : lt_z (to_z w64 (of_z w64 (sum_of base offset))) (pos 0) ≡ false → lt_z (pos size_max) (to_z w64 (of_z w64 (sum_of base offset))) ≡ false
@@ -79,7 +80,7 @@ module _ (base : ℕ) (offset : ℤ) (b : base < 2 ^ 32) (o : SFits w32 offset) 
       → T (non_neg (to_z w64 (of_z w64 (sum_of base offset)))) × Fits w32 (nat_abs (to_z w64 (of_z w64 (sum_of base offset))))
   moved_fits w = rw sum_read (w.positive, record { fits = omega (arith, w.small) })
 
-  pub moved_answer : Within (pos base +ℤ offset) → sought.At (nat_abs (to_z w64 (of_z w64 (sum_of base offset)))) ≡ within_of (pos base +ℤ offset)
+  pub moved_answer : Within (pos base +ℤ offset) → Ok (nat_abs (to_z w64 (of_z w64 (sum_of base offset)))) ≡ within_of (pos base +ℤ offset)
   moved_answer w = rw sum_read w.answer
 
 -- a small number, by its bits
@@ -101,7 +102,7 @@ module _ (number position size : ℕ) (offset whence : ℤ) (o : SFits w32 offse
   whence_end e = rw (to_z-of_z o, bits_small whence 2 s (omega arith) e)
 
 pub whence_other : (number position size : ℕ) (offset whence : ℤ) → (of_z w32 whence ≡ 0 → ⊥) → (of_z w32 whence ≡ 1 → ⊥) → (of_z w32 whence ≡ 2 → ⊥)
-    → sought.At position ≡ whence_of (seeking number position offset whence) size
+    → Ok position ≡ whence_of (seeking number position offset whence) size
 unfolding whence_of
 whence_other number position size offset (pos zero) a b c = absurd (a refl)
 whence_other number position size offset (pos (suc zero)) a b c = absurd (b refl)

@@ -1,21 +1,26 @@
 -- One turn of each loop over the files from place i on. Assumes nothing.
-use mathlib.Core.Path.{◌≡◌, ◌∙◌}
-use mathlib.Core.List.{List}
+use mathlib.Core.Path.{◌≡◌, sym, ap, ◌∙◌}
+use mathlib.Core.List.{List, ◌++◌, append_assoc}
 use Prim.Native.Nat.{ℕ, ◌+◌, ◌-◌, ◌≤◌, ◌<◌}
 use native.Mathlib.Omega.{arith}
 use native.Mathlib.Numerals.{add-one}
 use borrow.Author.Tests.{lt-ltb, le-ltb, eq-eqb, ne_eqb}
-use lib.ListN.{length, get_or, set}
-use lib.Seq.{slice, slice-cons, sets, length-slice}
+use borrow.Rule.Slice.PartMut.{put_mid}
+use lib.ListN.{length, get_or, take, drop}
+use lib.Seq.{slice, slice-cons, sets, sets-eq, length-slice, drop-drop}
+use Rattle.std.specs.List.{between}
+use Rattle.std.proofs.lemmas.Slice.{between_is}
+use Rattle.layout.specs.Numbers.{files_max}
 use Rattle.files.specs.declared.Entry.{Entry}
 use Rattle.files.specs.declared.Table.{Table}
-use Rattle.files.specs.declared.Found.TheVariants as found
+use Rattle.std.specs.Prelude.{Ok, Err}
+use Rattle.layout.specs.declared.Refusal.TheVariants.{Missing}
 use Rattle.files.specs.Table.{no_entry, search_of}
-use Rattle.files.specs.inner.Facts.{append_of, slot_for}
+use Rattle.files.specs.inner.Facts.{append_of, slot_for, AppendRoom}
 use Rattle.files.proofs.Laws.{slice_end}
 
 module _ (fs : List Entry) (i count : ℕ) where
-  pub search_here : (number : ℕ) → i < count → count ≤ length fs → (get_or fs i no_entry).number ≡ number → search_of number (slice i count fs) i ≡ found.At i
+  pub search_here : (number : ℕ) → i < count → count ≤ length fs → (get_or fs i no_entry).number ≡ number → search_of number (slice i count fs) i ≡ Ok i
   unfolding search_of
   search_here number h l e = rw (slice-cons i count fs no_entry h l, search_of, eq-eqb (get_or fs i no_entry).number number e)
 
@@ -24,7 +29,7 @@ module _ (fs : List Entry) (i count : ℕ) where
   unfolding search_of
   search_on number h l e = rw (slice-cons i count fs no_entry h l, search_of, ne_eqb (get_or fs i no_entry).number number e, add-one i)
 
-  pub search_end : (number : ℕ) → i ≤ count → count ≤ i → search_of number (slice i count fs) i ≡ found.Missing
+  pub search_end : (number : ℕ) → i ≤ count → count ≤ i → search_of number (slice i count fs) i ≡ Err Missing
   unfolding search_of
   search_end number h l = rw (slice_end fs i count h l)
 
@@ -42,14 +47,19 @@ module _ (fs : List Entry) (i count : ℕ) where
   unfolding slot_for
   place_end number h l = rw (slice_end fs i count h l) (omega arith)
 
-  pub append_on : (l : List Entry) (n : ℕ) → i < count → count ≤ length fs
-      → sets l n (slice i count fs) ≡ sets (set l n (get_or fs i no_entry)) (n + 1) (slice (i + 1) count fs)
-  append_on l n h k = rw (slice-cons i count fs no_entry h k, add-one i, add-one n)
+-- the files copied at once are the files stored one after another
+copied : (xs ys : List Entry) (a k : ℕ) → k ≡ length ys → a + k ≤ length xs → put_mid a k xs ys ≡ sets xs a ys
+copied xs ys a k e h =
+    ap (λ (l : List Entry). take a xs ++ (ys ++ l)) (drop-drop k a xs ∙ ap (λ (m : ℕ). drop (a + m) xs) e)
+    ∙ sym (append_assoc (take a xs) ys (drop (a + length ys) xs))
+    ∙ sym (sets-eq ys xs a (omega arith))
 
--- the copy done: what is left is empty, and the count has grown by as many
-pub append_end : (u : Table) (ts fs : List Entry) (from to n i : ℕ) → to ≤ length ts → i ≤ to → to ≤ i → n + (to - i) ≡ u.count + (to - from)
-    → sets u.files u.count (slice from to ts) ≡ sets fs n (slice i to ts) → record { files = fs; count = n } ≡ append_of u (slice from to ts)
-append_end u ts fs from to n i k a b c e =
-    let e1 : sets u.files u.count (slice from to ts) ≡ fs = e ∙ rw (slice_end ts i to a b) in
-    let e2 : u.count + length (slice from to ts) ≡ n = rw (length-slice from to ts k) (omega arith) in
-    rw (e1, e2)
+pub append_copied : (u t : Table) (from to : ℕ) (new : List Entry) → length u.files ≡ files_max → AppendRoom u t from to → new ≡ between from to t.files
+    → record { files = put_mid u.count (u.count + (to - from) - u.count) u.files new; count = u.count + (to - from) } ≡ append_of u (slice from to t.files)
+append_copied u t from to new l r e =
+    let s = slice from to t.files in
+    let n : length s ≡ to - from = length-slice from to t.files (omega (arith, r.slots, r.to_le)) in
+    let q : new ≡ s = e ∙ between_is t.files from to in
+    let p : put_mid u.count (u.count + (to - from) - u.count) u.files s ≡ sets u.files u.count s
+    = copied u.files s u.count (u.count + (to - from) - u.count) (omega arith) (omega (arith, r.fits)) in
+    rw (q, p, n)

@@ -1,12 +1,11 @@
 -- How create, remove and the store change a table.
-use Rattle.std.specs.Prelude.{true, false, List, [], ◌∷◌, ℕ, set, ltb, eqb, ℤ}
+use Rattle.std.specs.Prelude.{true, false, List, [], ◌∷◌, ℕ, Result, Ok, Err, set, ltb, eqb}
+use Rattle.layout.specs.declared.Refusal.{Refusal}
+use Rattle.layout.specs.declared.Refusal.TheVariants.{Missing, TableFull, Exists}
 use Rattle.layout.specs.Layout.{BlockList}
-use Rattle.layout.specs.Numbers.{files_max, null_block, accepted, file_exists, invalid, no_file, table_full}
+use Rattle.layout.specs.Numbers.{files_max, null_block}
 use Rattle.files.specs.declared.Entry.{Entry}
 use Rattle.files.specs.declared.Table.{Table}
-use Rattle.files.specs.declared.Found.TheVariants as found
-use Rattle.files.specs.declared.change.Change.{Change}
-use Rattle.files.specs.declared.change.Change.TheVariants as change
 use Rattle.files.specs.declared.change.Changed.{Changed}
 use Rattle.files.specs.Table.{held, file, table_of, find_of}
 
@@ -26,37 +25,28 @@ without_of number [] = []
 without_of number (e ∷ es) = elim (eqb e.number number) [ true ↦ es | false ↦ e ∷ without_of number es ]
 
 -- a change, or a refusal that hands the table back as it came
-abbrev pub changed : Change → Table → Changed
+abbrev pub changed : Result (Unit {0}) Refusal → Table → Changed
 changed answer t = record { answer = answer; table = t }
 
 -- an empty file made: -22, -17 if it exists, then -12 if 32 files are held
 unfoldable pub create_of : Table → ℕ → Changed
 create_of t number =
     elim (find_of t number) [
-      | found.At i ↦ changed change.Exists t
-      | found.Missing ↦ elim (ltb t.count files_max) [
-        | true ↦ changed change.Done (table_of (insert_of number (held t)))
-        | false ↦ changed change.Full t
+      | Ok i ↦ changed (Err Exists) t
+      | Err Missing ↦ elim (ltb t.count files_max) [
+        | true ↦ changed (Ok tt) (table_of (insert_of number (held t)))
+        | false ↦ changed (Err TableFull) t
       ]
-      | found.Refused ↦ changed change.Refused t
+      | Err r ↦ changed (Err r) t
     ]
 
 -- a file removed: -22, -2
 unfoldable pub remove_of : Table → ℕ → Changed
 remove_of t number =
     elim (find_of t number) [
-      | found.At i ↦ changed change.Done (table_of (without_of number (held t)))
-      | found.Missing ↦ changed change.Missing t
-      | found.Refused ↦ changed change.Refused t
+      | Ok i ↦ changed (Ok tt) (table_of (without_of number (held t)))
+      | Err r ↦ changed (Err r) t
     ]
-
--- -2 no such file; -12 32 files held; -17 exists; -22 table value, file number
-abbrev pub change_code : Change → ℤ
-change_code change.Done = accepted
-change_code change.Missing = no_file
-change_code change.Full = table_full
-change_code change.Exists = file_exists
-change_code change.Refused = invalid
 
 -- the table with another list of the file at place i: the store's change
 abbrev pub with_list : Table → ℕ → BlockList → Table

@@ -1,13 +1,11 @@
 -- The file table: which values are tables, where a file stands in one, and its size.
-use Rattle.std.specs.Prelude.{Bool, true, false, ◌&&◌, List, [], ◌∷◌, ◌++◌, ℕ, suc, ◌-◌, length, take, get_or, replicate, leb, eqb}
+use Rattle.std.specs.Prelude.{Bool, true, false, ◌&&◌, List, [], ◌∷◌, ◌++◌, ℕ, suc, ◌-◌, Result, Ok, Err, length, take, get_or, replicate, leb, eqb}
+use Rattle.layout.specs.declared.Refusal.{Refusal}
+use Rattle.layout.specs.declared.Refusal.TheVariants.{Missing, Invalid}
 use Rattle.layout.specs.Layout.{BlockList}
 use Rattle.layout.specs.Numbers.{files_max, number_max, size_max, null_block, head_max}
 use Rattle.files.specs.declared.Entry.{Entry}
 use Rattle.files.specs.declared.Table.{Table}
-use Rattle.files.specs.declared.Found.{Found}
-use Rattle.files.specs.declared.Found.TheVariants as found
-use Rattle.files.specs.declared.Sized.{Sized}
-use Rattle.files.specs.declared.Sized.TheVariants as sized
 
 -- what stands in a slot past the count
 abbrev pub no_entry : Entry
@@ -47,23 +45,22 @@ unfoldable pub table_ok : Table → Bool
 table_ok t = eqb (length t.files) files_max && leb t.count files_max && files_ok 0 (held t)
 
 -- the place of file `number` among these files, the first of which stands at place i
-unfoldable pub search_of : ℕ → List Entry → ℕ → Found
-search_of number [] i = found.Missing
-search_of number (e ∷ es) i = elim (eqb e.number number) [ true ↦ found.At i | false ↦ search_of number es (suc i) ]
+unfoldable pub search_of : ℕ → List Entry → ℕ → Result ℕ Refusal
+search_of number [] i = Err Missing
+search_of number (e ∷ es) i = elim (eqb e.number number) [ true ↦ Ok i | false ↦ search_of number es (suc i) ]
 
 -- the table, then the file number, then whether there is such a file
-unfoldable pub find_of : Table → ℕ → Found
+unfoldable pub find_of : Table → ℕ → Result ℕ Refusal
 find_of t number =
     elim (table_ok t) [
-      | false ↦ found.Refused
-      | true ↦ elim (leb number number_max) [ false ↦ found.Refused | true ↦ search_of number (held t) 0 ]
+      | false ↦ Err Invalid
+      | true ↦ elim (leb number number_max) [ false ↦ Err Invalid | true ↦ search_of number (held t) 0 ]
     ]
 
 -- the size of a file
-unfoldable pub size_of : Table → ℕ → Sized
+unfoldable pub size_of : Table → ℕ → Result ℕ Refusal
 size_of t number =
     elim (find_of t number) [
-      | found.At i ↦ sized.Bytes (file t i).size
-      | found.Missing ↦ sized.Missing
-      | found.Refused ↦ sized.Refused
+      | Ok i ↦ Ok (file t i).size
+      | Err r ↦ Err r
     ]

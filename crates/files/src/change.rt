@@ -6,22 +6,13 @@ ghost use Rattle.files.specs.Table.{held, table_of, table_ok};
 ghost use Rattle.files.specs.Change.{empty_file, create_of, remove_of, with_list};
 ghost use Rattle.files.specs.inner.Facts.{append_of, slot_for, AppendRoom};
 
-use crate::{Entry, Found, Table, find};
-use layout::Geometry;
+use crate::{Entry, Table, find};
+use layout::{Geometry, Refusal};
 
-// What became of a table, and the table.
-#[derive(Clone, Copy)]
-pub enum Change {
-    Done,
-    Missing,
-    Exists,
-    Full,
-    Refused,
-}
-
-#[derive(Clone, Copy)]
+// What became of a table, and the table; on a refusal as it came.
+#[derive(Clone, Copy, Debug, PartialEq, Eq)]
 pub struct Changed {
-    pub answer: Change,
+    pub answer: Result<(), Refusal>,
     pub table: Table,
 }
 
@@ -30,33 +21,24 @@ fn place(t: Table, number: u32) -> u32
     requires { table_ok t ≡ true }
     ensures { result ≡ slot_for number (held t) }
 {
-    let count = t.count;
-    let mut i: u32 = 0;
-    while i < count {
+    for i in 0..t.count {
         if number <= t.files[i as usize].number {
             return i;
         }
-        i += 1;
     }
-    i
+    t.count
 }
 
 // `u` with the files of `t` from place `from` to place `to` at its end.
-fn append(u: Table, t: Table, from: u32, to: u32) -> Table
+fn append(mut u: Table, t: Table, from: u32, to: u32) -> Table
     requires { AppendRoom u t from to }
     ensures { result ≡ append_of u (slice from to t.files) }
 {
-    let mut v = u;
-    let mut n = u.count;
-    let mut i = from;
-    while i < to {
-        let e = t.files[i as usize];
-        v.files[n as usize] = e;
-        n += 1;
-        i += 1;
-    }
-    v.count = n;
-    v
+    let start = u.count;
+    let end = start + (to - from);
+    u.files[start as usize..end as usize].copy_from_slice(&t.files[from as usize..to as usize]);
+    u.count = end;
+    u
 }
 
 // The table `t` with an empty file `number` at place `at`.
@@ -66,7 +48,7 @@ fn with_file(t: Table, number: u32, at: u32) -> Table
 {
     let mut u = append(Table::empty(), t, 0, at);
     u.files[at as usize] = Entry {
-        number: number,
+        number,
         size: 0,
         head: Geometry::NULL,
     };
@@ -78,27 +60,22 @@ fn with_file(t: Table, number: u32, at: u32) -> Table
 pub fn create(t: Table, number: u32) -> Changed
     ensures { result ≡ create_of t number }
 {
-    match find(t, number) {
-        Found::At(_) => Changed {
-            answer: Change::Exists,
-            table: t,
-        },
-        Found::Missing => {
+    let refusal = match find(t, number) {
+        Ok(_) => Refusal::Exists,
+        Err(Refusal::Missing) => {
             if t.count < Table::MOST {
                 return Changed {
-                    answer: Change::Done,
+                    answer: Ok(()),
                     table: with_file(t, number, place(t, number)),
                 };
             }
-            Changed {
-                answer: Change::Full,
-                table: t,
-            }
+            Refusal::TableFull
         }
-        Found::Refused => Changed {
-            answer: Change::Refused,
-            table: t,
-        },
+        Err(refusal) => refusal,
+    };
+    Changed {
+        answer: Err(refusal),
+        table: t,
     }
 }
 
@@ -115,16 +92,12 @@ pub fn remove(t: Table, number: u32) -> Changed
     ensures { result ≡ remove_of t number }
 {
     match find(t, number) {
-        Found::At(i) => Changed {
-            answer: Change::Done,
+        Ok(i) => Changed {
+            answer: Ok(()),
             table: without_file(t, i),
         },
-        Found::Missing => Changed {
-            answer: Change::Missing,
-            table: t,
-        },
-        Found::Refused => Changed {
-            answer: Change::Refused,
+        Err(refusal) => Changed {
+            answer: Err(refusal),
             table: t,
         },
     }
@@ -136,10 +109,6 @@ pub fn put(mut t: Table, i: u32, size: u32, head: u32) -> Table
     ensures { result ≡ with_list t i (record { head = head; size = size }) }
 {
     let number = t.files[i as usize].number;
-    t.files[i as usize] = Entry {
-        number: number,
-        size: size,
-        head: head,
-    };
+    t.files[i as usize] = Entry { number, size, head };
     t
 }

@@ -7,11 +7,11 @@ pub mod position;
 ghost use Rattle.std.specs.Prelude.{◌≡◌, true, []};
 ghost use Rattle.files.specs.Table.{held, table_of, entry_ok, table_ok, search_of, find_of, size_of};
 
-use layout::Geometry;
+use layout::{Geometry, Refusal};
 
 // A file: its number, its size, and the last block of its list.
 #[repr(C)]
-#[derive(Clone, Copy)]
+#[derive(Clone, Copy, Debug, PartialEq, Eq)]
 pub struct Entry {
     pub number: u32,
     pub size: u32,
@@ -20,7 +20,7 @@ pub struct Entry {
 
 // The files of a store, numbers rising; slots past the count are not looked at.
 #[repr(C)]
-#[derive(Clone, Copy)]
+#[derive(Clone, Copy, Debug, PartialEq, Eq)]
 pub struct Table {
     pub files: [Entry; Table::FILES],
     pub count: u32,
@@ -79,45 +79,30 @@ pub fn valid_table(t: Table) -> bool
         return false;
     }
     let mut least: u32 = 0;
-    let mut i: u32 = 0;
-    while i < count {
-        let e = t.files[i as usize];
-        if valid_entry(e, least) {
-            least = e.number + 1;
-            i += 1;
-        } else {
+    for e in &t.files[..count as usize] {
+        if !valid_entry(*e, least) {
             return false;
         }
+        least = e.number + 1;
     }
     true
 }
 
-// Where a file stands in the table.
-#[derive(Clone, Copy)]
-pub enum Found {
-    At(u32),
-    Missing,
-    Refused,
-}
-
 // The place of file `number` in a table that is valid.
-fn search(t: Table, number: u32) -> Found
+fn search(t: Table, number: u32) -> Result<u32, Refusal>
     requires { table_ok t ≡ true }
     ensures { result ≡ search_of number (held t) 0 }
 {
-    let count = t.count;
-    let mut i: u32 = 0;
-    while i < count {
+    for i in 0..t.count {
         if t.files[i as usize].number == number {
-            return Found::At(i);
+            return Ok(i);
         }
-        i += 1;
     }
-    Found::Missing
+    Err(Refusal::Missing)
 }
 
 // The place of file `number`.
-pub fn find(t: Table, number: u32) -> Found
+pub fn find(t: Table, number: u32) -> Result<u32, Refusal>
     ensures { result ≡ find_of t number }
 {
     if valid_table(t) {
@@ -125,24 +110,13 @@ pub fn find(t: Table, number: u32) -> Found
             return search(t, number);
         }
     }
-    Found::Refused
-}
-
-// The size of a file.
-#[derive(Clone, Copy)]
-pub enum Sized {
-    Bytes(u32),
-    Missing,
-    Refused,
+    Err(Refusal::Invalid)
 }
 
 // The size of file `number`.
-pub fn size(t: Table, number: u32) -> Sized
+pub fn size(t: Table, number: u32) -> Result<u32, Refusal>
     ensures { result ≡ size_of t number }
 {
-    match find(t, number) {
-        Found::At(i) => Sized::Bytes(t.files[i as usize].size),
-        Found::Missing => Sized::Missing,
-        Found::Refused => Sized::Refused,
-    }
+    let i = find(t, number)?;
+    Ok(t.files[i as usize].size)
 }

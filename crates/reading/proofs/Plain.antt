@@ -21,7 +21,7 @@ use Rattle.plain.proofs.Files.{bytes_length}
 use Rattle.plain.proofs.Reading.{read_sound, stretch_past, stretch_place, stretch_sound}
 use Rattle.plain.proofs.Same.{part_bytes}
 use Rattle.files.specs.declared.Table.{Table}
-use Rattle.files.specs.declared.Found.TheVariants as found
+use Rattle.std.specs.Prelude.{Ok}
 use Rattle.files.specs.Table.{file, find_of}
 use Rattle.reading.specs.declared.Reading.TheVariants as reading
 use Rattle.reading.specs.declared.Placed.TheVariants as placed
@@ -40,7 +40,7 @@ part_bytes_lem image (Given place length) = refl
 part_bytes_lem image Part.Damaged = refl
 part_bytes_lem image Part.Refused = refl
 
-module _ (B N : ℕ) (image : List ℕ) (t : Table) (number i p : ℕ) (good : good_card (geometry B N) (length image) ≡ true) (here : find_of t number ≡ found.At i)
+module _ (B N : ℕ) (image : List ℕ) (t : Table) (number i p : ℕ) (good : good_card (geometry B N) (length image) ≡ true) (here : find_of t number ≡ Ok i)
     (near : p ≤ size_max) (sound : SoundList (card_with B N image) (block_list (file t i).head (file t i).size)) where
   abbrev head : ℕ
   head = (file t i).head

@@ -1,13 +1,13 @@
 -- What read and stretch answer and leave (01, "Store calls"), in the order of the tests (01, "Refusal numbers").
-use Rattle.std.specs.Prelude.{true, false, List, ℕ, ltb, ℤ, length, take, drop}
+use Rattle.std.specs.Prelude.{true, false, Ok, Err, List, ℕ, ltb, ℤ, length, take, drop}
 use Rattle.std.proofs.lemmas.List.Edits.{sets}
 use Rattle.layout.specs.declared.Geometry.{Geometry}
+use Rattle.layout.specs.declared.Refusal.TheVariants.{Missing}
 use Rattle.layout.specs.Numbers.{size_max, accepted, no_file, invalid, damaged_card}
 use Rattle.layout.specs.Layout.{Position}
 use Rattle.card.specs.Card.{Card, good_card}
 use Rattle.plain.specs.Reading.{Part, Given, Bytes, read_in, stretch_in, Gathered}
 use Rattle.files.specs.declared.Table.{Table}
-use Rattle.files.specs.declared.Found.TheVariants as found
 use Rattle.files.specs.Table.{file, find_of}
 use Rattle.reading.specs.declared.Asked.{Asked}
 use Rattle.reading.specs.declared.Asked.TheVariants as asked
@@ -27,9 +27,9 @@ asked_of g len t at =
     elim (good_card g len) [
       | false ↦ asked.Refused
       | true ↦ elim (find_of t at.number) [
-        | found.At i ↦ elim (ltb size_max at.position) [ true ↦ asked.Refused | false ↦ asked.File (file t i).head (file t i).size ]
-        | found.Missing ↦ asked.Missing
-        | found.Refused ↦ asked.Refused
+        | Ok i ↦ elim (ltb size_max at.position) [ true ↦ asked.Refused | false ↦ asked.File (file t i).head (file t i).size ]
+        | Err Missing ↦ asked.Missing
+        | Err r ↦ asked.Refused
       ]
     ]
 

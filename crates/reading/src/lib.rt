@@ -7,8 +7,8 @@ ghost use Rattle.std.specs.Prelude.{◌≡◌};
 ghost use Rattle.card.specs.Card.{card_of};
 ghost use Rattle.reading.specs.Calls.{asked_of, read_of, stretch_of, stretch_bytes, placed_place, placed_length};
 
-use files::{Found, Table};
-use layout::Geometry;
+use files::Table;
+use layout::{Geometry, Refusal};
 
 // What a read answers.
 #[derive(Clone, Copy)]
@@ -50,7 +50,7 @@ fn ask(g: Geometry, len: usize, t: Table, number: u32, pos: u32) -> Asked
         return Asked::Refused;
     }
     match files::find(t, number) {
-        Found::At(i) => {
+        Ok(i) => {
             if Geometry::FILE_MAX < pos {
                 return Asked::Refused;
             }
@@ -60,8 +60,8 @@ fn ask(g: Geometry, len: usize, t: Table, number: u32, pos: u32) -> Asked
                 size: e.size,
             }
         }
-        Found::Missing => Asked::Missing,
-        Found::Refused => Asked::Refused,
+        Err(Refusal::Missing) => Asked::Missing,
+        Err(_) => Asked::Refused,
     }
 }
 

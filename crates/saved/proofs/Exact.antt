@@ -14,8 +14,8 @@ use Rattle.files.specs.Change.{empty_file}
 use Rattle.files.proofs.Tests.{leb_cases, eqb_cases}
 use Rattle.files.proofs.Laws.{join_ok, GoodEntry}
 use Rattle.files.proofs.Lists.{held_of, of_ok}
-use Rattle.saved.specs.declared.Loading.TheVariants as loading
-use Rattle.saved.specs.declared.Loaded.{Loaded}
+use Rattle.std.specs.Prelude.{Result, Ok}
+use Rattle.layout.specs.declared.Refusal.{Refusal}
 use Rattle.saved.specs.Load.{damaged, read, read_up_to, read_head, read_size, read_entry, read_files, finish, load_of, file_before, then_read, Parsed}
 use Rattle.saved.specs.Save.{head_bytes, entry_bytes, files_bytes, save_of, groups}
 use Rattle.saved.proofs.Numbers.{Bytes, InRange, up_to_was, reading_cases}
@@ -158,11 +158,11 @@ pub record Exact (t : Table) (bs : List ℕ) : Type 0 where
   pub zeroed : table_of (held t) ≡ t
   pub written : save_of t ≡ bs
 
-finish_was : (t : Table) (r : Parsed (List Entry)) → finish r ≡ record { answer = loading.Done; table = t } → (es : List Entry) × ((r ≡ read es []) × (table_of es ≡ t))
+finish_was : (t : Table) (r : Parsed (List Entry)) → finish r ≡ Ok t → (es : List Entry) × ((r ≡ read es []) × (table_of es ≡ t))
 unfolding finish
-finish_was t damaged q = let z : ◌≡◌ {A = ℕ} 0 1 = cc (ap (λ (x : Loaded). x.answer) q) in absurd (omega arith)
-finish_was t (read es []) q = (es, (refl, ap (λ (x : Loaded). x.table) q))
-finish_was t (read es (b ∷ bs)) q = let z : ◌≡◌ {A = ℕ} 0 1 = cc (ap (λ (x : Loaded). x.answer) q) in absurd (omega arith)
+finish_was t damaged q = let z : ◌≡◌ {A = ℕ} 0 1 = cc in absurd (omega arith)
+finish_was t (read es []) q = (es, (refl, (let x : table_of es ≡ t = cc in x)))
+finish_was t (read es (b ∷ bs)) q = let z : ◌≡◌ {A = ℕ} 0 1 = cc in absurd (omega arith)
 
 exact : (es : List Entry) (t : Table) (count : ℕ) (bs w : List ℕ) → InRange files_max count w bs → FilesWas count 0 es [] w → table_of es ≡ t → Exact t bs
 unfolding save_of
@@ -175,12 +175,12 @@ exact es t count bs w i f x =
     })
 
 -- what load takes is exactly the saved form of the table that it answers
-pub load_exact : (t : Table) (bs : List ℕ) → Bytes bs → load_of bs ≡ record { answer = loading.Done; table = t } → Exact t bs
+pub load_exact : (t : Table) (bs : List ℕ) → Bytes bs → load_of bs ≡ Ok t → Exact t bs
 unfolding load_of finish
 load_exact t bs b =
     reading_cases (read_up_to files_max bs)
-    (λ r. ◌≡◌ {A = Loaded} (finish (then_read r (λ count w. read_files count w 0))) (record { answer = loading.Done; table = t }) → Exact t bs)
-    (λ p q. let z : ◌≡◌ {A = ℕ} 0 1 = cc (ap (λ (x : Loaded). x.answer) q) in absurd (omega arith))
+    (λ r. ◌≡◌ {A = Result Table Refusal} (finish (then_read r (λ count w. read_files count w 0))) (Ok t) → Exact t bs)
+    (λ p q. let z : ◌≡◌ {A = ℕ} 0 1 = cc in absurd (omega arith))
     (λ count w p q.
     let i = up_to_was files_max bs count w b p in
     let d = finish_was t (read_files count w 0) q in

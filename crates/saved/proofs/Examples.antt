@@ -5,7 +5,7 @@ use Prim.Native.Nat.{ℕ}
 use Rattle.files.specs.declared.Table.{Table}
 use Rattle.files.specs.Table.{table_of}
 use Rattle.files.specs.Change.{empty_file}
-use Rattle.saved.specs.declared.Loading.TheVariants as loading
+use Rattle.std.specs.Prelude.{Ok}
 use Rattle.saved.specs.Load.{read_number, up_to, read_up_to, read_head, read_size, read_entry, read_files, finish, load_of, file_before, group_before}
 use Rattle.saved.specs.Save.{head_bytes, entry_bytes, files_bytes, save_of, groups, groups_by}
 
@@ -19,6 +19,6 @@ pub saves : save_of two ≡ bytes
 unfolding save_of files_bytes entry_bytes head_bytes groups groups_by
 saves = refl
 
-pub loads : load_of bytes ≡ record { answer = loading.Done; table = two }
+pub loads : load_of bytes ≡ Ok two
 unfolding load_of finish read_files file_before read_entry read_size read_head read_up_to up_to read_number group_before
 loads = refl

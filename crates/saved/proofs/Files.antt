@@ -12,68 +12,67 @@ use Rattle.files.specs.declared.Table.{Table}
 use Rattle.files.specs.Table.{no_entry, table_of}
 use Rattle.files.specs.Change.{empty_file}
 use Rattle.saved.specs.declared.read.NumberRead.{NumberRead}
-use Rattle.saved.specs.declared.read.NumberRead.TheVariants as number
+use Rattle.std.specs.Prelude.{Option, Some, None, Ok, Err, Result}
 use Rattle.saved.specs.declared.read.EntryRead.{EntryRead}
-use Rattle.saved.specs.declared.read.EntryRead.TheVariants as entry
-use Rattle.saved.specs.declared.Loading.TheVariants as loading
-use Rattle.saved.specs.declared.Loaded.{Loaded}
-use Rattle.saved.specs.Load.{damaged, read, read_up_to, read_entry, read_size, read_files, refused_load, finish, load_of, file_before, Parsed}
-use Rattle.saved.specs.inner.Steps.{number_told, NumberPost, entry_told, EntryPost}
+use Rattle.layout.specs.declared.Refusal.{Refusal}
+use Rattle.layout.specs.declared.Refusal.TheVariants.{Damaged}
+use Rattle.saved.specs.Load.{damaged, read, read_up_to, read_entry, read_size, read_files, finish, load_of, file_before, Parsed}
+use Rattle.saved.specs.inner.Steps.{a_number, an_entry, number_told, NumberPost, entry_told, EntryPost}
 use Rattle.saved.proofs.Numbers.{Bytes, up_to_le}
 use Rattle.saved.proofs.Steps.{head_no, head_yes, size_no, size_empty, size_some, entry_no, entry_low, entry_yes, files_no, files_yes, load_no, load_yes}
 use Rattle.saved.proofs.Exact.{entry_was}
 
 -- ---- a number
 
-module _ (bytes : List ℕ) (at limit : ℕ) (r : NumberRead) (p : NumberPost bytes at limit r) where
-  pub number_gone : r ≡ number.Damaged → read_up_to limit (drop at bytes) ≡ damaged
+module _ (bytes : List ℕ) (at limit : ℕ) (r : Option NumberRead) (p : NumberPost bytes at limit r) where
+  pub number_gone : r ≡ None → read_up_to limit (drop at bytes) ≡ damaged
   number_gone e = p.told ∙ ap (number_told bytes) e
 
-  pub number_at : (v next : ℕ) → r ≡ number.At v next → read_up_to limit (drop at bytes) ≡ read v (drop next bytes)
+  pub number_at : (v next : ℕ) → r ≡ Some (a_number v next) → read_up_to limit (drop at bytes) ≡ read v (drop next bytes)
   number_at v next e = p.told ∙ ap (number_told bytes) e
 
-  number_place : (v next : ℕ) → r ≡ number.At v next → next ≤ length bytes
+  number_place : (v next : ℕ) → r ≡ Some (a_number v next) → next ≤ length bytes
   number_place v next e = rw e at p.next_le
 
 -- ---- a file
 
-no_entry_lem : (bytes : List ℕ) (at least : ℕ) → read_entry least (drop at bytes) ≡ damaged → EntryPost bytes at least entry.Damaged
+no_entry_lem : (bytes : List ℕ) (at least : ℕ) → read_entry least (drop at bytes) ≡ damaged → EntryPost bytes at least None
 no_entry_lem bytes at least e = record { told = e; next_le = omega arith }
 
-an_entry : (bytes : List ℕ) (at least : ℕ) (e : Entry) (next : ℕ) → read_entry least (drop at bytes) ≡ read e (drop next bytes) → next ≤ length bytes
-    → EntryPost bytes at least (entry.At e next)
-an_entry bytes at least e next q h = record { told = q; next_le = h }
+entry_there : (bytes : List ℕ) (at least : ℕ) (e : Entry) (next : ℕ) → read_entry least (drop at bytes) ≡ read e (drop next bytes) → next ≤ length bytes
+    → EntryPost bytes at least (Some (an_entry e next))
+entry_there bytes at least e next q h = record { told = q; next_le = h }
 
-module _ (bytes : List ℕ) (at least : ℕ) (r : NumberRead) (p : NumberPost bytes at number_max r) where
-  pub number_damaged : r ≡ number.Damaged → EntryPost bytes at least entry.Damaged
+module _ (bytes : List ℕ) (at least : ℕ) (r : Option NumberRead) (p : NumberPost bytes at number_max r) where
+  pub number_damaged : r ≡ None → EntryPost bytes at least None
   number_damaged e = no_entry_lem bytes at least (entry_no least (drop at bytes) (number_gone bytes at number_max r p e))
 
-  module _ (v a : ℕ) (e : r ≡ number.At v a) where
-    pub number_below : v < least → EntryPost bytes at least entry.Damaged
+  module _ (v a : ℕ) (e : r ≡ Some (a_number v a)) where
+    pub number_below : v < least → EntryPost bytes at least None
     number_below h = no_entry_lem bytes at least (entry_low least (drop at bytes) v (drop a bytes) (number_at bytes at number_max r p v a e) h)
 
-    module _ (h : least ≤ v) (s : NumberRead) (q : NumberPost bytes a size_max s) where
+    module _ (h : least ≤ v) (s : Option NumberRead) (q : NumberPost bytes a size_max s) where
       start : read_entry least (drop at bytes) ≡ read_size v (drop a bytes)
       start = entry_yes least (drop at bytes) v (drop a bytes) (number_at bytes at number_max r p v a e) h
 
-      pub size_damaged : s ≡ number.Damaged → EntryPost bytes at least entry.Damaged
+      pub size_damaged : s ≡ None → EntryPost bytes at least None
       size_damaged f = no_entry_lem bytes at least (start ∙ size_no v (drop a bytes) (number_gone bytes a size_max s q f))
 
-      module _ (z b : ℕ) (f : s ≡ number.At z b) where
-        pub size_zero : z ≡ 0 → EntryPost bytes at least (entry.At (empty_file v) b)
+      module _ (z b : ℕ) (f : s ≡ Some (a_number z b)) where
+        pub size_zero : z ≡ 0 → EntryPost bytes at least (Some (an_entry (empty_file v) b))
         size_zero n =
-            an_entry bytes at least (empty_file v) b (start ∙ size_empty v (drop a bytes) z (drop b bytes) (number_at bytes a size_max s q z b f) n)
+            entry_there bytes at least (empty_file v) b (start ∙ size_empty v (drop a bytes) z (drop b bytes) (number_at bytes a size_max s q z b f) n)
             (number_place bytes a size_max s q z b f)
 
-        module _ (n : z ≡ 0 → ⊥) (w : NumberRead) (k : NumberPost bytes b head_max w) where
-          pub head_damaged : w ≡ number.Damaged → EntryPost bytes at least entry.Damaged
+        module _ (n : z ≡ 0 → ⊥) (w : Option NumberRead) (k : NumberPost bytes b head_max w) where
+          pub head_damaged : w ≡ None → EntryPost bytes at least None
           head_damaged g =
               no_entry_lem bytes at least
               (start ∙ size_some v (drop a bytes) z (drop b bytes) (number_at bytes a size_max s q z b f) n ∙ head_no v z (drop b bytes) (number_gone bytes b head_max w k g))
 
-          pub head_there : (x c : ℕ) → w ≡ number.At x c → EntryPost bytes at least (entry.At (record { number = v; size = z; head = x }) c)
+          pub head_there : (x c : ℕ) → w ≡ Some (a_number x c) → EntryPost bytes at least (Some (an_entry (record { number = v; size = z; head = x }) c))
           head_there x c g =
-              an_entry bytes at least (record { number = v; size = z; head = x }) c
+              entry_there bytes at least (record { number = v; size = z; head = x }) c
               (start ∙ size_some v (drop a bytes) z (drop b bytes) (number_at bytes a size_max s q z b f) n
               ∙ head_yes v z (drop b bytes) x (drop c bytes) (number_at bytes b head_max w k x c g))
               (number_place bytes b head_max w k x c g)
@@ -83,7 +82,7 @@ module _ (bytes : List ℕ) (at least : ℕ) (r : NumberRead) (p : NumberPost by
 drop_bytes : (bs : List ℕ) (p : ℕ) → Bytes bs → Bytes (drop p bs)
 drop_bytes bs p h = λ k l. rw (get_or-drop p bs k 0) (h (p + k) (omega (arith, length-drop p bs)))
 
-pub entry_small : (bytes : List ℕ) (p least : ℕ) (r : EntryRead) (e : Entry) (next : ℕ) → Bytes bytes → EntryPost bytes p least r → r ≡ entry.At e next
+pub entry_small : (bytes : List ℕ) (p least : ℕ) (r : Option EntryRead) (e : Entry) (next : ℕ) → Bytes bytes → EntryPost bytes p least r → r ≡ Some (an_entry e next)
     → e.number ≤ number_max
 entry_small bytes p least r e next b q f =
     (entry_was least e (drop p bytes) (drop next bytes) (drop_bytes bytes p b) (q.told ∙ ap (entry_told bytes) f)).good.number_le
@@ -124,18 +123,18 @@ filled_start bytes at count t h e =
     }
 
 module _ (bytes : List ℕ) (at count : ℕ) (slots : List Entry) (least p i : ℕ) (d : Filled bytes at count slots least p i) where
-  module _ (r : EntryRead) (q : EntryPost bytes p least r) (h : i < count) where
+  module _ (r : Option EntryRead) (q : EntryPost bytes p least r) (h : i < count) where
     left : count - i ≡ suc (count - (i + 1))
     left = omega arith
 
-    pub filled_damaged : r ≡ entry.Damaged → refused_load ≡ finish (read_files count (drop at bytes) 0)
+    pub filled_damaged : r ≡ None → Err Damaged ≡ finish (read_files count (drop at bytes) 0)
     unfolding finish behind
     filled_damaged e =
         let m : read_files (count - i) (drop p bytes) least ≡ damaged
         = rw left (files_no (count - (i + 1)) least (drop p bytes) (q.told ∙ ap (entry_told bytes) e)) in
         sym (d.rest ∙ rw m)
 
-    pub filled_turn : (e : Entry) (next : ℕ) → r ≡ entry.At e next → Filled bytes at count (set slots i e) (e.number + 1) next (i + 1)
+    pub filled_turn : (e : Entry) (next : ℕ) → r ≡ Some (an_entry e next) → Filled bytes at count (set slots i e) (e.number + 1) next (i + 1)
     filled_turn e next f =
         let m : read_files (count - i) (drop p bytes) least ≡ file_before e (read_files (count - (i + 1)) (drop next bytes) (e.number + 1))
         = rw (left, add-one e.number) (files_yes (count - (i + 1)) least (drop p bytes) e (drop next bytes) (q.told ∙ ap (entry_told bytes) f)) in
@@ -157,11 +156,11 @@ module _ (bytes : List ℕ) (at count : ℕ) (slots : List Entry) (least p i : �
         let z : count - i ≡ zero = omega arith in
         d.rest ∙ rw z (ap (λ (l : List Entry). finish (read l (drop p bytes))) (append-nil d.files))
 
-    pub filled_trailing : p < length bytes → refused_load ≡ finish (read_files count (drop at bytes) 0)
+    pub filled_trailing : p < length bytes → Err Damaged ≡ finish (read_files count (drop at bytes) 0)
     unfolding finish
     filled_trailing l = sym (all_read ∙ rw (drop-cons bytes p 0 l))
 
-    pub filled_done : length bytes ≤ p → record { answer = loading.Done; table = record { files = slots; count = count } } ≡ finish (read_files count (drop at bytes) 0)
+    pub filled_done : length bytes ≤ p → Ok (record { files = slots; count = count }) ≡ finish (read_files count (drop at bytes) 0)
     unfolding finish
     filled_done l =
         let n : length d.files ≡ count = omega (arith, d.many, d.i_le) in
@@ -170,12 +169,12 @@ module _ (bytes : List ℕ) (at count : ℕ) (slots : List Entry) (least p i : �
 
 -- ---- the load
 
-module _ (bytes : List ℕ) (r : NumberRead) (p : NumberPost bytes 0 files_max r) where
-  pub load_damaged : r ≡ number.Damaged → refused_load ≡ load_of bytes
+module _ (bytes : List ℕ) (r : Option NumberRead) (p : NumberPost bytes 0 files_max r) where
+  pub load_damaged : r ≡ None → Err Damaged ≡ load_of bytes
   load_damaged e = sym (load_no bytes (number_gone bytes 0 files_max r p e))
 
-  pub load_count : (count next : ℕ) → r ≡ number.At count next → count ≤ files_max
+  pub load_count : (count next : ℕ) → r ≡ Some (a_number count next) → count ≤ files_max
   load_count count next e = up_to_le files_max bytes count (drop next bytes) (number_at bytes 0 files_max r p count next e)
 
-  pub load_files : (count next : ℕ) (u : Loaded) → r ≡ number.At count next → u ≡ finish (read_files count (drop next bytes) 0) → u ≡ load_of bytes
+  pub load_files : (count next : ℕ) (u : Result Table Refusal) → r ≡ Some (a_number count next) → u ≡ finish (read_files count (drop next bytes) 0) → u ≡ load_of bytes
   load_files count next u e q = q ∙ sym (load_yes bytes count (drop next bytes) (number_at bytes 0 files_max r p count next e))

@@ -12,7 +12,7 @@ use Rattle.files.specs.Table.{held, table_of, files_ok, table_ok}
 use Rattle.files.specs.Change.{empty_file}
 use Rattle.files.proofs.Tests.{eqb_cases}
 use Rattle.files.proofs.Laws.{first_good, rest_ok, held_ok, count_ok, held_length, GoodEntry}
-use Rattle.saved.specs.declared.Loading.TheVariants as loading
+use Rattle.std.specs.Prelude.{Ok}
 use Rattle.saved.specs.Load.{read, read_size, read_entry, read_files, finish, load_of, file_before}
 use Rattle.saved.specs.Save.{head_bytes, entry_bytes, files_bytes, save_of, groups}
 use Rattle.saved.proofs.Steps.{head_none, head_some, head_yes, size_empty, size_some, entry_yes, files_yes, load_yes}
@@ -49,12 +49,12 @@ files_read least (e ∷ es) rest h =
     ∙ ap (file_before e) (files_read (suc e.number) es rest (rest_ok least e es h))
     ∙ before_read e es rest)
 
-finish_read : (es : List Entry) → finish (read es []) ≡ record { answer = loading.Done; table = table_of es }
+finish_read : (es : List Entry) → finish (read es []) ≡ Ok (table_of es)
 unfolding finish
 finish_read es = refl
 
 -- load of save is the table, with zero entries past the count
-pub load_save : (t : Table) → table_ok t ≡ true → load_of (save_of t) ≡ record { answer = loading.Done; table = table_of (held t) }
+pub load_save : (t : Table) → table_ok t ≡ true → load_of (save_of t) ≡ Ok (table_of (held t))
 unfolding save_of
 load_save t h =
     let r = rw (held_length t h, append-nil (files_bytes (held t))) at (files_read 0 (held t) [] (held_ok t h)) in

@@ -12,9 +12,9 @@ use lib.Seq.{drop-cons}
 use lib.Dec.{ltb, leb, eqb}
 use Rattle.files.proofs.Tests.{eqb_cases, leb_cases, bool_cases}
 use Rattle.saved.specs.declared.read.NumberRead.{NumberRead}
-use Rattle.saved.specs.declared.read.NumberRead.TheVariants as number
+use Rattle.std.specs.Prelude.{Option, Some, None}
 use Rattle.saved.specs.Load.{damaged, read, read_number, up_to, read_up_to, then_read, group_before, Parsed}
-use Rattle.saved.specs.inner.Steps.{Scaled, last_of, number_told, number_next, NumberPost}
+use Rattle.saved.specs.inner.Steps.{Scaled, a_number, last_of, number_told, number_next, NumberPost}
 use Rattle.saved.proofs.Numbers.{read_last, read_more, more_some, more_none}
 
 -- a number that follows groups worth `value`, and counts `scale`-fold
@@ -82,15 +82,15 @@ pub is_one : (scale b : ℕ) → scale ≤ 1 → (ltb 1 scale && eqb b 0) ≡ fa
 is_one scale b h = rw (le-ltb 1 scale h)
 
 module _ (value scale b limit next : ℕ) where
-  pub last_long : 1 < scale → b ≡ 0 → number.Damaged ≡ last_of value scale b limit next
+  pub last_long : 1 < scale → b ≡ 0 → None ≡ last_of value scale b limit next
   unfolding last_of
   last_long h z = rw (last_of, long scale b h z)
 
-  pub last_fits : (ltb 1 scale && eqb b 0) ≡ false → value + scale * b ≤ limit → number.At (value + scale * b) next ≡ last_of value scale b limit next
+  pub last_fits : (ltb 1 scale && eqb b 0) ≡ false → value + scale * b ≤ limit → Some (a_number (value + scale * b) next) ≡ last_of value scale b limit next
   unfolding last_of
   last_fits e h = rw (last_of, e, le-leb (value + scale * b) limit h)
 
-  pub last_large : (ltb 1 scale && eqb b 0) ≡ false → limit < value + scale * b → number.Damaged ≡ last_of value scale b limit next
+  pub last_large : (ltb 1 scale && eqb b 0) ≡ false → limit < value + scale * b → None ≡ last_of value scale b limit next
   unfolding last_of
   last_large e h = rw (last_of, e, lt-leb (value + scale * b) limit h)
 
@@ -100,20 +100,20 @@ unfolding last_of join up_to
 last_is bytes value scale b limit next =
     bool_cases (ltb 1 scale && eqb b 0)
     (λ t. up_to limit (elim t [ true ↦ damaged | false ↦ read (value + scale * b) (drop next bytes) ])
-    ≡ number_told bytes (elim t [ true ↦ number.Damaged | false ↦ elim (leb (value + scale * b) limit) [ true ↦ number.At (value + scale * b) next | false ↦ number.Damaged ] ]))
+    ≡ number_told bytes (elim t [ true ↦ None | false ↦ elim (leb (value + scale * b) limit) [ true ↦ Some (a_number (value + scale * b) next) | false ↦ None ] ]))
     (λ e. refl)
     (λ e. leb_cases (value + scale * b) limit
-    (λ t. (elim t [ true ↦ read (value + scale * b) (drop next bytes) | false ↦ damaged ]) ≡ number_told bytes (elim t [ true ↦ number.At (value + scale * b) next | false ↦ number.Damaged ]))
+    (λ t. (elim t [ true ↦ read (value + scale * b) (drop next bytes) | false ↦ damaged ]) ≡ number_told bytes (elim t [ true ↦ Some (a_number (value + scale * b) next) | false ↦ None ]))
     (λ l. refl) (λ l. refl))
 
 last_next : (value scale b limit next : ℕ) → number_next (last_of value scale b limit next) ≤ next
 unfolding last_of
 last_next value scale b limit next =
     bool_cases (ltb 1 scale && eqb b 0)
-    (λ t. number_next (elim t [ true ↦ number.Damaged | false ↦ elim (leb (value + scale * b) limit) [ true ↦ number.At (value + scale * b) next | false ↦ number.Damaged ] ]) ≤ next)
+    (λ t. number_next (elim t [ true ↦ None | false ↦ elim (leb (value + scale * b) limit) [ true ↦ Some (a_number (value + scale * b) next) | false ↦ None ] ]) ≤ next)
     (λ e. omega arith)
     (λ e. leb_cases (value + scale * b) limit
-    (λ t. number_next (elim t [ true ↦ number.At (value + scale * b) next | false ↦ number.Damaged ]) ≤ next) (λ l. omega arith) (λ l. omega arith))
+    (λ t. number_next (elim t [ true ↦ Some (a_number (value + scale * b) next) | false ↦ None ]) ≤ next) (λ l. omega arith) (λ l. omega arith))
 
 pub start_is : (limit : ℕ) (bs : List ℕ) → read_up_to limit bs ≡ up_to limit (join 0 1 (read_number bs))
 unfolding read_up_to
@@ -127,7 +127,7 @@ module _ (bytes : List ℕ) (at limit value scale i : ℕ) (inv : read_up_to lim
       let d : drop i bytes ≡ b ∷ drop (i + 1) bytes = rw (e, add-one i) (drop-cons bytes i 0 l) in
       inv ∙ ap (up_to limit) (ap (join value scale) (ap read_number d ∙ read_more b (drop (i + 1) bytes) h) ∙ join_more value scale b p (read_number (drop (i + 1) bytes)))
 
-  pub number_last : (b : ℕ) (r : NumberRead) → i < length bytes → b ≡ get_or bytes i 0 → b < 128 → r ≡ last_of value scale b limit (i + 1) → NumberPost bytes at limit r
+  pub number_last : (b : ℕ) (r : Option NumberRead) → i < length bytes → b ≡ get_or bytes i 0 → b < 128 → r ≡ last_of value scale b limit (i + 1) → NumberPost bytes at limit r
   number_last b r l e h q =
       let d : drop i bytes ≡ b ∷ drop (i + 1) bytes = rw (e, add-one i) (drop-cons bytes i 0 l) in
       rw q
@@ -137,14 +137,14 @@ module _ (bytes : List ℕ) (at limit value scale i : ℕ) (inv : read_up_to lim
         next_le = omega (arith, last_next value scale b limit (i + 1));
       })
 
-  pub number_over : (b : ℕ) → i < length bytes → b ≡ get_or bytes i 0 → 128 ≤ b → zero < scale → limit < scale * 128 → NumberPost bytes at limit number.Damaged
+  pub number_over : (b : ℕ) → i < length bytes → b ≡ get_or bytes i 0 → 128 ≤ b → zero < scale → limit < scale * 128 → NumberPost bytes at limit None
   number_over b l e h p k =
       record {
         told = number_turn b l e h p ∙ join_large limit (value + scale * (b - 128)) (scale * 128) k (omega arith) (read_number (drop (i + 1) bytes));
         next_le = omega arith;
       }
 
-  pub number_end : length bytes ≤ i → NumberPost bytes at limit number.Damaged
+  pub number_end : length bytes ≤ i → NumberPost bytes at limit None
   unfolding read_number up_to join
   number_end h = record { told = inv ∙ rw (drop_of_length-le bytes h); next_le = omega arith }
 

@@ -5,10 +5,12 @@ use Prim.Native.Nat.{ℕ, suc, ◌+◌, ◌≤◌, ◌<◌}
 use native.Mathlib.Omega.{arith}
 use borrow.Author.Tests.{le-leb, lt-leb, eq-eqb, ne_eqb}
 use lib.ListN.{length, length-append}
+use Rattle.std.specs.Prelude.{Err}
+use Rattle.layout.specs.declared.Refusal.TheVariants.{Damaged}
 use Rattle.layout.specs.Numbers.{files_max, number_max, size_max, head_max}
 use Rattle.files.specs.declared.Entry.{Entry}
 use Rattle.files.specs.Change.{empty_file}
-use Rattle.saved.specs.Load.{damaged, read, read_up_to, read_head, read_size, read_entry, read_files, refused_load, finish, load_of, file_before, then_read}
+use Rattle.saved.specs.Load.{damaged, read, read_up_to, read_head, read_size, read_entry, read_files, finish, load_of, file_before, then_read}
 use Rattle.saved.specs.Save.{head_bytes, entry_bytes, groups}
 use Rattle.saved.specs.inner.Steps.{Counted}
 
@@ -85,7 +87,7 @@ module _ (k least : ℕ) (bs : List ℕ) where
   files_yes e rest q = rw (read_files, q)
 
 module _ (bs : List ℕ) where
-  pub load_no : read_up_to files_max bs ≡ damaged → load_of bs ≡ refused_load
+  pub load_no : read_up_to files_max bs ≡ damaged → load_of bs ≡ Err Damaged
   unfolding load_of finish
   load_no e = rw (load_of, e)
 

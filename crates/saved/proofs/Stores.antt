@@ -8,13 +8,13 @@ use native.Mathlib.Numerals.{add-one}
 use native.Mathlib.Omega.{arith}
 use borrow.Author.Tests.{le-leb, lt-leb}
 use lib.Dec.{leb}
-use lib.ListN.{length, set, get_or, length-append}
-use lib.Seq.{sets, slice, slice-cons}
+use lib.ListN.{length, set, get_or, drop, length-append, drop_of_length-le}
+use lib.Seq.{sets, drop-cons}
 use Rattle.files.specs.declared.Entry.{Entry}
 use Rattle.files.specs.declared.Table.{Table}
 use Rattle.files.specs.Table.{no_entry, held, table_ok}
-use Rattle.files.proofs.Laws.{slice_end}
-use Rattle.saved.specs.declared.Saved.TheVariants as saved
+use Rattle.std.specs.Prelude.{Ok, Err}
+use Rattle.layout.specs.declared.Refusal.TheVariants.{Invalid}
 use Rattle.saved.specs.Save.{entry_bytes, files_bytes, save_of, savable, saved_of, buffer_of, groups}
 use Rattle.saved.proofs.Steps.{head_none, head_some}
 use Rattle.saved.proofs.Numbers.{groups_last, groups_more}
@@ -55,21 +55,21 @@ module _ (l : List ℕ) (at : ℕ) (e : Entry) (a b : ℕ) (m n : List ℕ)
       rw (head_some e z, ← append_assoc (groups e.number) (groups e.size) h) (k, q)
 
 -- the files from place i on: the first of them, then the rest
-module _ (fs : List Entry) (i count : ℕ) (h : i < count) (k : count ≤ length fs) where
-  pub bytes_turn : files_bytes (slice i count fs) ≡ entry_bytes (get_or fs i no_entry) ++ files_bytes (slice (i + 1) count fs)
+module _ (es : List Entry) (i : ℕ) (h : i < length es) where
+  pub bytes_turn : files_bytes (drop i es) ≡ entry_bytes (get_or es i no_entry) ++ files_bytes (drop (i + 1) es)
   unfolding files_bytes
-  bytes_turn = rw (slice-cons i count fs no_entry h k, add-one i)
+  bytes_turn = rw (drop-cons es i no_entry h, add-one i)
 
-  pub length_turn : length (files_bytes (slice i count fs)) ≡ length (entry_bytes (get_or fs i no_entry)) + length (files_bytes (slice (i + 1) count fs))
-  length_turn = ap length bytes_turn ∙ length-append (entry_bytes (get_or fs i no_entry)) (files_bytes (slice (i + 1) count fs))
+  pub length_turn : length (files_bytes (drop i es)) ≡ length (entry_bytes (get_or es i no_entry)) + length (files_bytes (drop (i + 1) es))
+  length_turn = ap length bytes_turn ∙ length-append (entry_bytes (get_or es i no_entry)) (files_bytes (drop (i + 1) es))
 
-  pub files_turn : (l m : List ℕ) (at r : ℕ) → r ≡ at + length (entry_bytes (get_or fs i no_entry)) → m ≡ sets l at (entry_bytes (get_or fs i no_entry))
-      → sets l at (files_bytes (slice i count fs)) ≡ sets m r (files_bytes (slice (i + 1) count fs))
-  files_turn l m at r p q = rw (bytes_turn, p, q) (stores l at (entry_bytes (get_or fs i no_entry)) (files_bytes (slice (i + 1) count fs)))
+  pub files_turn : (l m : List ℕ) (at r : ℕ) → r ≡ at + length (entry_bytes (get_or es i no_entry)) → m ≡ sets l at (entry_bytes (get_or es i no_entry))
+      → sets l at (files_bytes (drop i es)) ≡ sets m r (files_bytes (drop (i + 1) es))
+  files_turn l m at r p q = rw (bytes_turn, p, q) (stores l at (entry_bytes (get_or es i no_entry)) (files_bytes (drop (i + 1) es)))
 
-pub bytes_end : (fs : List Entry) (i count : ℕ) → i ≤ count → count ≤ i → files_bytes (slice i count fs) ≡ []
+pub bytes_end : (es : List Entry) (i : ℕ) → length es ≤ i → files_bytes (drop i es) ≡ []
 unfolding files_bytes
-bytes_end fs i count h k = rw (slice_end fs i count h k)
+bytes_end es i h = rw (drop_of_length-le es h)
 
 -- the whole table
 pub save_length : (t : Table) → length (save_of t) ≡ length (groups t.count) + length (files_bytes (held t))
@@ -82,26 +82,25 @@ save_stores l t = stores l 0 (groups t.count) (files_bytes (held t))
 
 -- all files stored: what the buffer holds is the saved form
 pub save_end : (l b m : List ℕ) (t : Table) (a at i : ℕ) → m ≡ sets l 0 (groups t.count) → a ≡ 0 + length (groups t.count)
-    → sets m a (files_bytes (slice 0 t.count t.files)) ≡ sets b at (files_bytes (slice i t.count t.files)) → i ≤ t.count → t.count ≤ i
-    → b ≡ sets l 0 (save_of t)
-save_end l b m t a at i p q e h k =
-    sym (save_stores l t ∙ rw (← p, ← q) (e ∙ rw (bytes_end t.files i t.count h k)))
+    → sets m a (files_bytes (held t)) ≡ sets b at (files_bytes (drop i (held t))) → length (held t) ≤ i → b ≡ sets l 0 (save_of t)
+save_end l b m t a at i p q e h =
+    sym (save_stores l t ∙ rw (← p, ← q) (e ∙ rw (bytes_end (held t) i h)))
 
 -- what save answers and leaves, case by case
 module _ (t : Table) (buffer : List ℕ) where
   pub save_fits : (n : ℕ) (m : List ℕ) → table_ok t ≡ true → n ≡ length (save_of t) → n ≤ length buffer → m ≡ sets buffer 0 (save_of t)
-      → (saved.Bytes n ≡ saved_of t buffer) × (m ≡ buffer_of t buffer)
+      → (Ok n ≡ saved_of t buffer) × (m ≡ buffer_of t buffer)
   unfolding saved_of buffer_of savable
   save_fits n m h e l p =
       let k : leb (length (save_of t)) (length buffer) ≡ true = le-leb (length (save_of t)) (length buffer) (omega arith) in
       (rw (saved_of, h, k, e), rw (buffer_of, h, k, p))
 
-  pub save_short : (n : ℕ) → table_ok t ≡ true → n ≡ length (save_of t) → length buffer < n → (saved.Refused ≡ saved_of t buffer) × (buffer ≡ buffer_of t buffer)
+  pub save_short : (n : ℕ) → table_ok t ≡ true → n ≡ length (save_of t) → length buffer < n → (Err Invalid ≡ saved_of t buffer) × (buffer ≡ buffer_of t buffer)
   unfolding saved_of buffer_of savable
   save_short n h e l =
       let k : leb (length (save_of t)) (length buffer) ≡ false = lt-leb (length (save_of t)) (length buffer) (omega arith) in
       (rw (saved_of, h, k), rw (buffer_of, h, k))
 
-  pub save_no_table : table_ok t ≡ false → (saved.Refused ≡ saved_of t buffer) × (buffer ≡ buffer_of t buffer)
+  pub save_no_table : table_ok t ≡ false → (Err Invalid ≡ saved_of t buffer) × (buffer ≡ buffer_of t buffer)
   unfolding saved_of buffer_of savable
   save_no_table h = (rw (saved_of, h), rw (buffer_of, h))

@@ -1,11 +1,12 @@
 -- Load: exact form only, else -84 and no table.
-use Rattle.std.specs.Prelude.{true, false, List, [], ◌∷◌, ℕ, zero, suc, ◌+◌, ◌-◌, ◌*◌, ltb, leb, eqb}
+use Rattle.std.specs.Prelude.{true, false, List, [], ◌∷◌, ℕ, zero, suc, ◌+◌, ◌-◌, ◌*◌, Result, Ok, Err, ltb, leb, eqb}
+use Rattle.layout.specs.declared.Refusal.{Refusal}
+use Rattle.layout.specs.declared.Refusal.TheVariants.{Damaged}
 use Rattle.layout.specs.Numbers.{files_max, number_max, size_max, head_max}
 use Rattle.files.specs.declared.Entry.{Entry}
+use Rattle.files.specs.declared.Table.{Table}
 use Rattle.files.specs.Table.{table_of}
 use Rattle.files.specs.Change.{empty_file}
-use Rattle.saved.specs.declared.Loading.TheVariants as loading
-use Rattle.saved.specs.declared.Loaded.{Loaded}
 
 -- what reading some bytes gives: bytes that are damaged, or what was read and the bytes that follow
 pub data Parsed (A : Type 0) : Type 0 where
@@ -57,16 +58,12 @@ unfoldable pub read_files : ℕ → List ℕ → ℕ → Parsed (List Entry)
 read_files zero bs least = read [] bs
 read_files (suc k) bs least = then_read (read_entry least bs) (λ e rest. file_before e (read_files k rest (suc e.number)))
 
--- a refusal hands out the table of no files
-abbrev pub refused_load : Loaded
-refused_load = record { answer = loading.Damaged; table = table_of [] }
-
 -- the table of these files, if no bytes follow them
-unfoldable pub finish : Parsed (List Entry) → Loaded
-finish damaged = refused_load
-finish (read es []) = record { answer = loading.Done; table = table_of es }
-finish (read es (b ∷ bs)) = refused_load
+unfoldable pub finish : Parsed (List Entry) → Result Table Refusal
+finish damaged = Err Damaged
+finish (read es []) = Ok (table_of es)
+finish (read es (b ∷ bs)) = Err Damaged
 
 -- at most 32 files, then each of them, then nothing
-unfoldable pub load_of : List ℕ → Loaded
+unfoldable pub load_of : List ℕ → Result Table Refusal
 load_of bytes = finish (then_read (read_up_to files_max bytes) (λ count rest. read_files count rest 0))

@@ -1,11 +1,11 @@
 -- The saved form of a table, and what save answers and leaves.
-use Rattle.std.specs.Prelude.{Bool, true, false, ◌&&◌, List, [], ◌∷◌, ◌++◌, ℕ, zero, suc, ◌+◌, ◌/◌, ◌%◌, length, ltb, leb, eqb}
+use Rattle.std.specs.Prelude.{Bool, true, false, ◌&&◌, List, [], ◌∷◌, ◌++◌, ℕ, zero, suc, ◌+◌, ◌/◌, ◌%◌, Result, Ok, Err, length, ltb, leb, eqb}
 use Rattle.std.proofs.lemmas.List.Edits.{sets}
+use Rattle.layout.specs.declared.Refusal.{Refusal}
+use Rattle.layout.specs.declared.Refusal.TheVariants.{Invalid}
 use Rattle.files.specs.declared.Entry.{Entry}
 use Rattle.files.specs.declared.Table.{Table}
 use Rattle.files.specs.Table.{held, table_ok}
-use Rattle.saved.specs.declared.Saved.{Saved}
-use Rattle.saved.specs.declared.Saved.TheVariants as saved
 
 -- a number in groups of seven bits, low group first, top bit set on all but the last: at most k groups before the last
 unfoldable pub groups_by : ℕ → ℕ → List ℕ
@@ -38,8 +38,8 @@ unfoldable pub savable : Table → ℕ → Bool
 savable t room = table_ok t && leb (length (save_of t)) room
 
 -- save answers the length; -22 table value, buffer too short
-unfoldable pub saved_of : Table → List ℕ → Saved
-saved_of t buffer = elim (savable t (length buffer)) [ true ↦ saved.Bytes (length (save_of t)) | false ↦ saved.Refused ]
+unfoldable pub saved_of : Table → List ℕ → Result ℕ Refusal
+saved_of t buffer = elim (savable t (length buffer)) [ true ↦ Ok (length (save_of t)) | false ↦ Err Invalid ]
 
 -- the buffer beyond keeps its bytes; on a refusal all of it does
 unfoldable pub buffer_of : Table → List ℕ → List ℕ

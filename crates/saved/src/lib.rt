@@ -9,49 +9,28 @@ ghost use Rattle.saved.specs.Save.{saved_of, buffer_of};
 ghost use Rattle.saved.specs.Load.{load_of};
 
 use files::Table;
-use read::{NumberRead, damaged_load, read_files, read_number};
+use layout::Refusal;
+use read::{read_files, read_number};
 use write::{saved_length, write_table};
 
-// What save answers: the length of the saved form.
-#[derive(Clone, Copy)]
-pub enum Saved {
-    Bytes(u32),
-    Refused,
-}
-
-// What load answers, beside the table.
-#[derive(Clone, Copy)]
-pub enum Loading {
-    Done,
-    Damaged,
-}
-
-#[derive(Clone, Copy)]
-pub struct Loaded {
-    pub answer: Loading,
-    pub table: Table,
-}
-
-// The saved form of a table into a lent buffer, whose bytes beyond keep their values.
-pub fn save(t: Table, buffer: &mut [u8]) -> Saved
+// The saved form of a table into a lent buffer, whose bytes beyond keep their values; answers its length.
+pub fn save(t: Table, buffer: &mut [u8]) -> Result<u32, Refusal>
     ensures { (result ≡ saved_of t buffer.old) × (buffer.new ≡ buffer_of t buffer.old) }
 {
     if files::valid_table(t) {
         let n = saved_length(t);
         if n as usize <= buffer.len() {
             write_table(buffer, t);
-            return Saved::Bytes(n);
+            return Ok(n);
         }
     }
-    Saved::Refused
+    Err(Refusal::Invalid)
 }
 
 // The table that these bytes are the saved form of.
-pub fn load(bytes: &[u8]) -> Loaded
+pub fn load(bytes: &[u8]) -> Result<Table, Refusal>
     ensures { result ≡ load_of bytes.now }
 {
-    match read_number(bytes, 0, Table::MOST) {
-        NumberRead::At { value, next } => read_files(bytes, next, value),
-        NumberRead::Damaged => damaged_load(),
-    }
+    let count = read_number(bytes, 0, Table::MOST).ok_or(Refusal::Damaged)?;
+    read_files(bytes, count.next, count.value)
 }

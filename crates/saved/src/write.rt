@@ -14,7 +14,7 @@ fn number_length(n: u32) -> u32
     let mut m = n;
     let mut k: u32 = 1;
     while 128 <= m {
-        m = m / 128;
+        m /= 128;
         k += 1;
     }
     k
@@ -36,12 +36,9 @@ pub fn saved_length(t: Table) -> u32
     requires { table_ok t ≡ true }
     ensures { result ≡ length (save_of t) }
 {
-    let count = t.count;
-    let mut n = number_length(count);
-    let mut i: u32 = 0;
-    while i < count {
-        n += entry_length(t.files[i as usize]);
-        i += 1;
+    let mut n = number_length(t.count);
+    for e in &t.files[..t.count as usize] {
+        n += entry_length(*e);
     }
     n
 }
@@ -55,7 +52,7 @@ fn write_number(buffer: &mut [u8], at: usize, n: u32) -> usize
     let mut i = at;
     while 128 <= m {
         buffer[i] = (128 + m % 128) as u8;
-        m = m / 128;
+        m /= 128;
         i += 1;
     }
     buffer[i] = m as u8;
@@ -80,11 +77,8 @@ pub fn write_table(buffer: &mut [u8], t: Table)
     requires { (table_ok t ≡ true) × (length (save_of t) ≤ length buffer.old) }
     ensures { buffer.new ≡ sets buffer.old 0 (save_of t) }
 {
-    let count = t.count;
-    let mut at = write_number(buffer, 0, count);
-    let mut i: u32 = 0;
-    while i < count {
-        at = write_entry(buffer, at, t.files[i as usize]);
-        i += 1;
+    let mut at = write_number(buffer, 0, t.count);
+    for e in &t.files[..t.count as usize] {
+        at = write_entry(buffer, at, *e);
     }
 }

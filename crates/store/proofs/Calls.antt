@@ -1,12 +1,14 @@
 -- write and truncate by their cases, in the order of the tests; behind them, what the inner functions leave. Assumes nothing.
-use mathlib.Core.Path.{◌≡◌, ◌∙◌}
+use mathlib.Core.Path.{◌≡◌, refl, ◌∙◌}
 use mathlib.Core.Bool.{true, false}
 use mathlib.Core.List.{List, []}
 use Prim.Native.Nat.{ℕ, ◌+◌, ◌-◌, ◌≤◌, ◌<◌}
 use lib.ListN.{length}
+use Rattle.std.specs.Prelude.{Ok, Err}
+use Rattle.layout.specs.declared.Refusal.{Refusal}
+use Rattle.layout.specs.declared.Refusal.TheVariants.{Missing}
 use Rattle.layout.specs.Numbers.{size_max}
 use Rattle.files.specs.declared.Table.{Table}
-use Rattle.files.specs.declared.Found.TheVariants as place
 use Rattle.files.specs.Table.{file, find_of}
 use Rattle.window.specs.declared.Lookahead.{Lookahead}
 use Rattle.grow.specs.Setting.{tested_of}
@@ -32,15 +34,16 @@ module _ (B N l : ℕ) (image health : List ℕ) (w : Lookahead) (t : Table) (nu
   write_untested e = rw (store_write, at_file, e)
 
   module _ (e : tested_of (setting B N l health) w (length image) ≡ true) where
-    pub write_no_table : find_of t number ≡ place.Refused → write_call ≡ left outcome.Refused w t image
+    pub write_no_table : (q : Refusal) → (q ≡ Missing → ⊥) → find_of t number ≡ Err q → write_call ≡ left outcome.Refused w t image
     unfolding store_write at_file tested_of
-    write_no_table f = rw (store_write, at_file, e, f)
+    write_no_table Missing d f = absurd (d refl)
+    write_no_table q d f = rw (store_write, at_file, e, f)
 
-    pub write_missing : find_of t number ≡ place.Missing → write_call ≡ left outcome.Missing w t image
+    pub write_missing : find_of t number ≡ Err Missing → write_call ≡ left outcome.Missing w t image
     unfolding store_write at_file tested_of
     write_missing f = rw (store_write, at_file, e, f)
 
-    module _ (i : ℕ) (f : find_of t number ≡ place.At i) where
+    module _ (i : ℕ) (f : find_of t number ≡ Ok i) where
       pub write_found : write_call ≡ write_file B N l image health w t i p src
       unfolding store_write at_file tested_of
       write_found = rw (store_write, at_file, e, f) (file_same B N l image health w t i (asked B N l image health w t number i e f) number p src)
@@ -71,15 +74,16 @@ module _ (B N l : ℕ) (image health : List ℕ) (w : Lookahead) (t : Table) (nu
   truncate_untested e = rw (store_truncate, at_file, e)
 
   module _ (e : tested_of (setting B N l health) w (length image) ≡ true) where
-    pub truncate_no_table : find_of t number ≡ place.Refused → truncate_call ≡ left outcome.Refused w t image
+    pub truncate_no_table : (q : Refusal) → (q ≡ Missing → ⊥) → find_of t number ≡ Err q → truncate_call ≡ left outcome.Refused w t image
     unfolding store_truncate at_file tested_of
-    truncate_no_table f = rw (store_truncate, at_file, e, f)
+    truncate_no_table Missing d f = absurd (d refl)
+    truncate_no_table q d f = rw (store_truncate, at_file, e, f)
 
-    pub truncate_missing : find_of t number ≡ place.Missing → truncate_call ≡ left outcome.Missing w t image
+    pub truncate_missing : find_of t number ≡ Err Missing → truncate_call ≡ left outcome.Missing w t image
     unfolding store_truncate at_file tested_of
     truncate_missing f = rw (store_truncate, at_file, e, f)
 
-    module _ (i : ℕ) (f : find_of t number ≡ place.At i) where
+    module _ (i : ℕ) (f : find_of t number ≡ Ok i) where
       pub truncate_found : truncate_call ≡ truncate_file B N l image health w t i size
       unfolding store_truncate at_file tested_of
       truncate_found = rw (store_truncate, at_file, e, f) (size_same B N l image health w t i (asked B N l image health w t number i e f) number size)

@@ -3,9 +3,13 @@ use mathlib.Core.Path.{◌≡◌, refl}
 use mathlib.Core.Bool.{Bool, true, false}
 use mathlib.Core.List.{List, []}
 use Prim.Native.Nat.{ℕ, ◌+◌}
+use native.Mathlib.Omega.{arith}
 use borrow.Author.Tests.{ltb-true, ltb-false, eqb-true, eqb-false}
 use lib.Dec.{ltb, eqb}
 use lib.ListN.{length}
+use Rattle.std.specs.Prelude.{Result, Ok, Err}
+use Rattle.layout.specs.declared.Refusal.{Refusal}
+use Rattle.layout.specs.declared.Refusal.TheVariants.{Missing}
 use Rattle.layout.specs.Numbers.{size_max, null_block}
 use Rattle.layout.specs.inner.Served.{block_list}
 use Rattle.card.specs.inner.Cards.{card_with}
@@ -13,8 +17,6 @@ use Rattle.ctz.specs.declared.Found.{Found}
 use Rattle.ctz.specs.declared.Found.TheVariants as found
 use Rattle.ctz.specs.Lookup.{walk_to}
 use Rattle.files.specs.declared.Table.{Table}
-use Rattle.files.specs.declared.Found as files
-use Rattle.files.specs.declared.Found.TheVariants as place
 use Rattle.files.specs.Table.{file, find_of}
 use Rattle.files.specs.Change.{with_list}
 use Rattle.window.specs.declared.Lookahead.{Lookahead}
@@ -76,7 +78,7 @@ module _ (B N l : ℕ) (image health : List ℕ) (w : Lookahead) (t : Table) (nu
     pub write_ends : Ends w t image (store_write (setting B N l health) (state w t image) (ask_write number p src))
     write_ends = tested (tested_of (setting B N l health) w (length image)) refl (find_of t number) refl
       where
-        sized : (e : tested_of (setting B N l health) w (length image) ≡ true) (i : ℕ) (f : find_of t number ≡ place.At i)
+        sized : (e : tested_of (setting B N l health) w (length image) ≡ true) (i : ℕ) (f : find_of t number ≡ Ok i)
             → (a : Bool) → ltb size_max p ≡ a → (b : Bool) → ltb size_max (p + length src) ≡ b → (c : Bool) → eqb (length src) 0 ≡ c
             → Ends w t image (store_write (setting B N l health) (state w t image) (ask_write number p src))
         sized e i f true x b y c z = rw (calls.write_far B N l image health w t number p src e i f (ltb-true _ _ x)) (kept outcome.Refused)
@@ -87,12 +89,12 @@ module _ (B N l : ℕ) (image health : List ℕ) (w : Lookahead) (t : Table) (nu
         sized e i f false x false y false z =
             rw (calls.write_some B N l image health w t number p src e i f (ltb-false _ _ x) (ltb-false _ _ y) (eqb-false _ _ z)) (written_ends i (puts B N l health t (file t i) p src w image))
 
-        tested : (a : Bool) → tested_of (setting B N l health) w (length image) ≡ a → (r : files.Found) → find_of t number ≡ r
+        tested : (a : Bool) → tested_of (setting B N l health) w (length image) ≡ a → (r : Result ℕ Refusal) → find_of t number ≡ r
             → Ends w t image (store_write (setting B N l health) (state w t image) (ask_write number p src))
         tested false e r f = rw (calls.write_untested B N l image health w t number p src e) (kept outcome.Refused)
-        tested true e place.Refused f = rw (calls.write_no_table B N l image health w t number p src e f) (kept outcome.Refused)
-        tested true e place.Missing f = rw (calls.write_missing B N l image health w t number p src e f) (kept outcome.Missing)
-        tested true e (place.At i) f = sized e i f (ltb size_max p) refl (ltb size_max (p + length src)) refl (eqb (length src) 0) refl
+        tested true e (Err Missing) f = rw (calls.write_missing B N l image health w t number p src e f) (kept outcome.Missing)
+        tested true e (Err q) f = rw (calls.write_no_table B N l image health w t number p src e q (λ z. let y : ◌≡◌ {A = ℕ} 0 1 = cc in omega arith) f) (kept outcome.Refused)
+        tested true e (Ok i) f = sized e i f (ltb size_max p) refl (ltb size_max (p + length src)) refl (eqb (length src) 0) refl
 
     -- THEOREM. A write of no bytes changes nothing, the window included.
     pub write_nothing : length src ≡ 0 → store_write (setting B N l health) (state w t image) (ask_write number p src) ≡ left (store_write (setting B N l health) (state w t image) (ask_write number p src)).answer w t image
@@ -102,24 +104,24 @@ module _ (B N l : ℕ) (image health : List ℕ) (w : Lookahead) (t : Table) (nu
             → store_write (setting B N l health) (state w t image) (ask_write number p src) ≡ left (store_write (setting B N l health) (state w t image) (ask_write number p src)).answer w t image
         same a e = rw e
 
-        sized : (e : tested_of (setting B N l health) w (length image) ≡ true) (i : ℕ) (f : find_of t number ≡ place.At i)
+        sized : (e : tested_of (setting B N l health) w (length image) ≡ true) (i : ℕ) (f : find_of t number ≡ Ok i)
             → (a : Bool) → ltb size_max p ≡ a → (b : Bool) → ltb size_max (p + length src) ≡ b
             → store_write (setting B N l health) (state w t image) (ask_write number p src) ≡ left (store_write (setting B N l health) (state w t image) (ask_write number p src)).answer w t image
         sized e i f true x b y = same outcome.Refused (calls.write_far B N l image health w t number p src e i f (ltb-true _ _ x))
         sized e i f false x true y = same outcome.TooLarge (calls.write_large B N l image health w t number p src e i f (ltb-false _ _ x) (ltb-true _ _ y))
         sized e i f false x false y = same outcome.Done (calls.write_none B N l image health w t number p src e i f (ltb-false _ _ x) (ltb-false _ _ y) z)
 
-        tested : (a : Bool) → tested_of (setting B N l health) w (length image) ≡ a → (r : files.Found) → find_of t number ≡ r
+        tested : (a : Bool) → tested_of (setting B N l health) w (length image) ≡ a → (r : Result ℕ Refusal) → find_of t number ≡ r
             → store_write (setting B N l health) (state w t image) (ask_write number p src) ≡ left (store_write (setting B N l health) (state w t image) (ask_write number p src)).answer w t image
         tested false e r f = same outcome.Refused (calls.write_untested B N l image health w t number p src e)
-        tested true e place.Refused f = same outcome.Refused (calls.write_no_table B N l image health w t number p src e f)
-        tested true e place.Missing f = same outcome.Missing (calls.write_missing B N l image health w t number p src e f)
-        tested true e (place.At i) f = sized e i f (ltb size_max p) refl (ltb size_max (p + length src)) refl
+        tested true e (Err Missing) f = same outcome.Missing (calls.write_missing B N l image health w t number p src e f)
+        tested true e (Err q) f = same outcome.Refused (calls.write_no_table B N l image health w t number p src e q (λ z. let y : ◌≡◌ {A = ℕ} 0 1 = cc in omega arith) f)
+        tested true e (Ok i) f = sized e i f (ltb size_max p) refl (ltb size_max (p + length src)) refl
 
   pub truncate_ends : (size : ℕ) → Ends w t image (store_truncate (setting B N l health) (state w t image) (ask_truncate number size))
   truncate_ends size = tested (tested_of (setting B N l health) w (length image)) refl (find_of t number) refl
     where
-      sized : (e : tested_of (setting B N l health) w (length image) ≡ true) (i : ℕ) (f : find_of t number ≡ place.At i)
+      sized : (e : tested_of (setting B N l health) w (length image) ≡ true) (i : ℕ) (f : find_of t number ≡ Ok i)
           → (a : Bool) → ltb size_max size ≡ a → (b : Bool) → ltb size (file t i).size ≡ b → (c : Bool) → eqb size (file t i).size ≡ c
           → Ends w t image (store_truncate (setting B N l health) (state w t image) (ask_truncate number size))
       sized e i f true x b y c z = rw (calls.truncate_far B N l image health w t number size e i f (ltb-true _ _ x)) (kept outcome.Refused)
@@ -130,9 +132,9 @@ module _ (B N l : ℕ) (image health : List ℕ) (w : Lookahead) (t : Table) (nu
       sized e i f false x false y false z =
           rw (calls.truncate_grows B N l image health w t number size e i f (ltb-false _ _ x) (ltb-false _ _ y) (eqb-false _ _ z)) (written_ends i (puts B N l health t (file t i) size [] w image))
 
-      tested : (a : Bool) → tested_of (setting B N l health) w (length image) ≡ a → (r : files.Found) → find_of t number ≡ r
+      tested : (a : Bool) → tested_of (setting B N l health) w (length image) ≡ a → (r : Result ℕ Refusal) → find_of t number ≡ r
           → Ends w t image (store_truncate (setting B N l health) (state w t image) (ask_truncate number size))
       tested false e r f = rw (calls.truncate_untested B N l image health w t number size e) (kept outcome.Refused)
-      tested true e place.Refused f = rw (calls.truncate_no_table B N l image health w t number size e f) (kept outcome.Refused)
-      tested true e place.Missing f = rw (calls.truncate_missing B N l image health w t number size e f) (kept outcome.Missing)
-      tested true e (place.At i) f = sized e i f (ltb size_max size) refl (ltb size (file t i).size) refl (eqb size (file t i).size) refl
+      tested true e (Err Missing) f = rw (calls.truncate_missing B N l image health w t number size e f) (kept outcome.Missing)
+      tested true e (Err q) f = rw (calls.truncate_no_table B N l image health w t number size e q (λ z. let y : ◌≡◌ {A = ℕ} 0 1 = cc in omega arith) f) (kept outcome.Refused)
+      tested true e (Ok i) f = sized e i f (ltb size_max size) refl (ltb size (file t i).size) refl (eqb size (file t i).size) refl

@@ -12,7 +12,7 @@ use Rattle.card.specs.Card.{good_card}
 use Rattle.health.specs.Health.{health_ok}
 use Rattle.health.proofs.Health.{healthy}
 use Rattle.files.specs.declared.Table.{Table}
-use Rattle.files.specs.declared.Found.TheVariants as place
+use Rattle.std.specs.Prelude.{Ok}
 use Rattle.files.specs.Table.{file, find_of}
 use Rattle.files.proofs.Laws.{table_valid, count_ok}
 use Rattle.files.proofs.Cases.{found_at}
@@ -60,7 +60,7 @@ tests B N l image health w e =
     record { card = a.0; healths = a.1; lookahead = b.1; window = c.1 }
 
 module _ (B N l : ℕ) (image health : List ℕ) (w : Lookahead) (t : Table) (number i : ℕ) (e : tested_of (setting B N l health) w (length image) ≡ true)
-    (f : find_of t number ≡ place.At i) where
+    (f : find_of t number ≡ Ok i) where
   pub slot : i < files_max
   slot = omega (arith, (found_at t number i f).below, count_ok t (found_at t number i f).ok)
 

@@ -1,12 +1,12 @@
 -- What write and truncate answer and leave, for every input (01, "Store calls", "Refusal numbers").
-use Rattle.std.specs.Prelude.{true, false, List, ℕ, zero, suc, ◌+◌, ◌-◌, ltb, eqb, length}
+use Rattle.std.specs.Prelude.{true, false, Ok, Err, List, ℕ, zero, suc, ◌+◌, ◌-◌, ltb, eqb, length}
 use Rattle.std.proofs.Math.IntN as int
 use Rattle.layout.specs.Numbers.{size_max, null_block, accepted, damaged_card, invalid, no_file, no_space, too_large}
+use Rattle.layout.specs.declared.Refusal.TheVariants.{Missing}
 use Rattle.layout.specs.Layout.{BlockList}
 use Rattle.ctz.specs.Lookup.{walk_to}
 use Rattle.files.specs.declared.Entry.{Entry}
 use Rattle.files.specs.declared.Table.{Table}
-use Rattle.files.specs.declared.Found.TheVariants as place
 use Rattle.files.specs.Table.{file, list_of, find_of}
 use Rattle.files.specs.Change as change
 use Rattle.window.specs.declared.Lookahead.{Lookahead}
@@ -66,9 +66,9 @@ at_file c st number go =
     elim (tested c st) [
       | false ↦ same outcome.Refused st
       | true ↦ elim (find_of st.table number) [
-        | place.Refused ↦ same outcome.Refused st
-        | place.Missing ↦ same outcome.Missing st
-        | place.At i ↦ go i
+        | Ok i ↦ go i
+        | Err Missing ↦ same outcome.Missing st
+        | Err r ↦ same outcome.Refused st
       ]
     ]
 

@@ -9,7 +9,7 @@ ghost use Rattle.store.specs.inner.Gives.{StoreGives};
 
 use file::{truncate_file, write_file};
 use files::Table;
-use layout::Geometry;
+use layout::{Geometry, Refusal};
 use steps::{left, valid_store};
 use window::Lookahead;
 
@@ -59,9 +59,8 @@ pub fn write(
     if !valid_store(g, l, image.len(), health, w) {
         return left(Outcome::Refused, w, t);
     }
-    let place = files::find(t, number);
-    match place {
-        files::Found::At(i) => write_file(
+    match files::find(t, number) {
+        Ok(i) => write_file(
             g.block_size,
             g.block_count,
             l,
@@ -73,8 +72,8 @@ pub fn write(
             pos,
             data,
         ),
-        files::Found::Missing => left(Outcome::Missing, w, t),
-        files::Found::Refused => left(Outcome::Refused, w, t),
+        Err(Refusal::Missing) => left(Outcome::Missing, w, t),
+        Err(_) => left(Outcome::Refused, w, t),
     }
 }
 
@@ -99,9 +98,8 @@ pub fn truncate(
     if !valid_store(g, l, image.len(), health, w) {
         return left(Outcome::Refused, w, t);
     }
-    let place = files::find(t, number);
-    match place {
-        files::Found::At(i) => truncate_file(
+    match files::find(t, number) {
+        Ok(i) => truncate_file(
             g.block_size,
             g.block_count,
             l,
@@ -112,7 +110,7 @@ pub fn truncate(
             i,
             size,
         ),
-        files::Found::Missing => left(Outcome::Missing, w, t),
-        files::Found::Refused => left(Outcome::Refused, w, t),
+        Err(Refusal::Missing) => left(Outcome::Missing, w, t),
+        Err(_) => left(Outcome::Refused, w, t),
     }
 }

@@ -4,14 +4,13 @@
 ghost use Rattle.std.specs.Prelude.{◌≡◌};
 ghost use Rattle.told_tables.specs.Tables.{changed_told, sized_told, sought_told, saved_told, loaded_told};
 
-use files::change::{Change, Changed};
-use files::position::Sought;
-use files::{Sized, Table};
-use saved::{Loaded, Loading, Saved};
+use files::Table;
+use files::change::Changed;
+use layout::Refusal;
 
 // A table handed back; on a refusal as it came.
 #[repr(C)]
-#[derive(Clone, Copy)]
+#[derive(Clone, Copy, Debug, PartialEq, Eq)]
 pub struct TidTable {
     pub code: i32,
     pub table: Table,
@@ -20,70 +19,48 @@ pub struct TidTable {
 pub fn changed_told(c: Changed) -> TidTable
     ensures { result ≡ changed_told c }
 {
-    let answer = c.answer;
-    let table = c.table;
-    match answer {
-        Change::Done => TidTable {
-            code: 0,
-            table: table,
+    TidTable {
+        code: match c.answer {
+            Ok(()) => 0,
+            Err(refusal) => refusal.code(),
         },
-        Change::Missing => TidTable {
-            code: -2,
-            table: table,
-        },
-        Change::Full => TidTable {
-            code: -12,
-            table: table,
-        },
-        Change::Exists => TidTable {
-            code: -17,
-            table: table,
-        },
-        Change::Refused => TidTable {
-            code: -22,
-            table: table,
-        },
+        table: c.table,
     }
 }
 
 #[repr(C)]
-#[derive(Clone, Copy)]
+#[derive(Clone, Copy, Debug, PartialEq, Eq)]
 pub struct TidSize {
     pub code: i32,
     pub size: u32,
 }
 
-pub fn sized_told(s: Sized) -> TidSize
+pub fn sized_told(s: Result<u32, Refusal>) -> TidSize
     ensures { result ≡ sized_told s }
 {
     match s {
-        Sized::Bytes(n) => TidSize { code: 0, size: n },
-        Sized::Missing => TidSize { code: -2, size: 0 },
-        Sized::Refused => TidSize { code: -22, size: 0 },
+        Ok(size) => TidSize { code: 0, size },
+        Err(refusal) => TidSize {
+            code: refusal.code(),
+            size: 0,
+        },
     }
 }
 
 #[repr(C)]
-#[derive(Clone, Copy)]
+#[derive(Clone, Copy, Debug, PartialEq, Eq)]
 pub struct TidSeek {
     pub code: i32,
     pub position: u32,
 }
 
-pub fn sought_told(s: Sought) -> TidSeek
+pub fn sought_told(s: Result<u32, Refusal>) -> TidSeek
     ensures { result ≡ sought_told s }
 {
     match s {
-        Sought::At(n) => TidSeek {
-            code: 0,
-            position: n,
-        },
-        Sought::Missing => TidSeek {
-            code: -2,
-            position: 0,
-        },
-        Sought::Refused => TidSeek {
-            code: -22,
+        Ok(position) => TidSeek { code: 0, position },
+        Err(refusal) => TidSeek {
+            code: refusal.code(),
             position: 0,
         },
     }
@@ -91,37 +68,33 @@ pub fn sought_told(s: Sought) -> TidSeek
 
 // How many bytes a saved table took.
 #[repr(C)]
-#[derive(Clone, Copy)]
+#[derive(Clone, Copy, Debug, PartialEq, Eq)]
 pub struct TidSave {
     pub code: i32,
     pub length: u32,
 }
 
-pub fn saved_told(s: Saved) -> TidSave
+pub fn saved_told(s: Result<u32, Refusal>) -> TidSave
     ensures { result ≡ saved_told s }
 {
     match s {
-        Saved::Bytes(n) => TidSave { code: 0, length: n },
-        Saved::Refused => TidSave {
-            code: -22,
+        Ok(length) => TidSave { code: 0, length },
+        Err(refusal) => TidSave {
+            code: refusal.code(),
             length: 0,
         },
     }
 }
 
-pub fn loaded_told(l: Loaded) -> TidTable
+// A loaded table; on a refusal that of no files.
+pub fn loaded_told(l: Result<Table, Refusal>) -> TidTable
     ensures { result ≡ loaded_told l }
 {
-    let answer = l.answer;
-    let table = l.table;
-    match answer {
-        Loading::Done => TidTable {
-            code: 0,
-            table: table,
-        },
-        Loading::Damaged => TidTable {
-            code: -84,
-            table: table,
+    match l {
+        Ok(table) => TidTable { code: 0, table },
+        Err(refusal) => TidTable {
+            code: refusal.code(),
+            table: Table::empty(),
         },
     }
 }

@@ -1,5 +1,8 @@
 -- `store::truncate` meets its contract: the tests in their order, then the file. Assumes nothing.
-use mathlib.Core.Path.{sym, ◌∙◌}
+use borrow.Author.Rules.{rules}
+use Rattle.std.specs.Prelude.{Err}
+use Rattle.layout.specs.declared.Refusal.TheVariants.{Missing}
+use mathlib.Core.Path.{◌≡◌, sym, ◌∙◌}
 use Rattle.grow.proofs.Tests.{held, fails}
 use Rattle.store.proofs.Tested.{asked}
 use Rattle.store.proofs.Files.{gives}
@@ -16,22 +19,23 @@ returns-then-not-valid_store c =
 pub truncate_file-requires : goal.truncate_file-requires
 truncate_file-requires c =
     let a = c.args in
-    asked a.g.block_size a.g.block_count a.l a.image.now a.health.now a.w a.t a.number _ (held c.valid_store.ensures (ap not c.if-not-valid_store.false)) (sym c.find-place.ensures ∙ c.in-At.is)
+    asked a.g.block_size a.g.block_count a.l a.image.now a.health.now a.w a.t a.number _ (held c.valid_store.ensures (ap not c.if-not-valid_store.false)) (sym c.find.ensures ∙ c.in-Ok.is)
 
-pub returns-in-At : goal.returns-in-At
-returns-in-At c =
+pub returns-in-Ok : goal.returns-in-Ok
+returns-in-Ok c =
     let a = c.args in
-    rw (truncate_found a.g.block_size a.g.block_count a.l a.image.now a.health.now a.w a.t a.number a.size (held c.valid_store.ensures (ap not c.if-not-valid_store.false)) _ (sym c.find-place.ensures ∙ c.in-At.is))
+    rw (truncate_found a.g.block_size a.g.block_count a.l a.image.now a.health.now a.w a.t a.number a.size (held c.valid_store.ensures (ap not c.if-not-valid_store.false)) _ (sym c.find.ensures ∙ c.in-Ok.is))
     c.truncate_file.ensures
 
-pub returns-in-Missing : goal.returns-in-Missing
-returns-in-Missing c =
+pub returns-in-Err-Missing : goal.returns-in-Err-Missing
+returns-in-Err-Missing c =
     let a = c.args in
-    gives (truncate_missing a.g.block_size a.g.block_count a.l a.image.now a.health.now a.w a.t a.number a.size (held c.valid_store.ensures (ap not c.if-not-valid_store.false)) (sym c.find-place.ensures ∙ c.in-Missing.is))
-    c.left-in-Missing.ensures
+    gives (truncate_missing a.g.block_size a.g.block_count a.l a.image.now a.health.now a.w a.t a.number a.size (held c.valid_store.ensures (ap not c.if-not-valid_store.false)) (sym c.find.ensures ∙ (c.in-Err-Missing.is ∙ ap Err c.in-Err-Missing.field-0-is)))
+    c.left-in-Err-Missing.ensures
 
-pub returns-in-Refused : goal.returns-in-Refused
-returns-in-Refused c =
+pub returns-in-Err : goal.returns-in-Err
+returns-in-Err c =
     let a = c.args in
-    gives (truncate_no_table a.g.block_size a.g.block_count a.l a.image.now a.health.now a.w a.t a.number a.size (held c.valid_store.ensures (ap not c.if-not-valid_store.false)) (sym c.find-place.ensures ∙ c.in-Refused.is))
-    c.left-in-Refused.ensures
+    let other : c.in-Err.field-0 ≡ Missing → ⊥ = λ e. search rules in
+    gives (truncate_no_table a.g.block_size a.g.block_count a.l a.image.now a.health.now a.w a.t a.number a.size (held c.valid_store.ensures (ap not c.if-not-valid_store.false)) _ other (sym c.find.ensures ∙ c.in-Err.is))
+    c.left-in-Err.ensures

@@ -1,10 +1,6 @@
 -- `saved::read::read_files` meets its contract. The invariant: the files read so far are in the slots, and the rest of the bytes is still to be read. Assumes nothing.
-use Prim.Native.Nat.{◌-◌}
 use Rattle.saved.proofs.Files.{Filled}
 use Rattle.saved.proofs.read.read_files.Given as goal
 
 abbrev pub invariant-loop-i : goal.invariant-loop-i
-invariant-loop-i l = Filled l.bytes l.at l.count l.u.files l.least l.p l.i
-
-abbrev pub decreases-loop-i : goal.decreases-loop-i
-decreases-loop-i l = l.count - l.i
+invariant-loop-i l = Filled l.bytes l.at l.count l.t.files l.least l.p l.i
