@@ -6,12 +6,13 @@ use Prim.Native.Nat.{ℕ, zero, suc, ◌-◌, ◌<◌}
 use native.Mathlib.Omega.{arith}
 use borrow.Author.Tests.{ltb-true, eqb-true, eqb-false}
 use lib.Dec.{ltb, eqb}
+use Rattle.std.specs.Prelude.{Option, None}
 use Rattle.span.specs.Members.{has}
 use Rattle.layout.specs.Layout.{index_at}
 use Rattle.card.specs.Card.{pointer}
 use Rattle.card.specs.inner.Cards.{card_with}
 use Rattle.ctz.specs.Visits.{Visited}
-use Rattle.ctz.specs.inner.Held.{visit_held, reads_two, next_block, next_after, hand_on}
+use Rattle.ctz.specs.inner.Held.{visit_held, next_block, next_held, hand_on}
 use Rattle.ctz.proofs.Visiting.{visit_empty, visit_begins}
 use Rattle.files.specs.declared.Entry.{Entry}
 use Rattle.files.specs.declared.Table.{Table}
@@ -31,19 +32,19 @@ abbrev Low : ℕ → Visited → Type 0
 Low N v = Below N v.handed
 
 -- each number is tested against N just before it is handed over
-visit_low : (ptr : ℕ → ℕ → ℕ) (N i k : ℕ) (kept : Bool) (after : ℕ) → Low N (visit_held ptr N i k kept after)
+visit_low : (ptr : ℕ → ℕ → ℕ) (N i k : ℕ) (kept : Option ℕ) → Low N (visit_held ptr N i k kept)
 unfolding visit_held
-visit_low ptr N zero k kept after = go (ltb k N) refl
+visit_low ptr N zero k kept = go (ltb k N) refl
   where
     go : (t : Bool) → ltb k N ≡ t
         → Low N (elim t [ false ↦ record { handed = []; clean = false } | true ↦ record { handed = k ∷ []; clean = true } ])
     go false e = below_none N
     go true e = below_more N k [] (ltb-true k N e) (below_none N)
-visit_low ptr N (suc i) k kept after =
-    go (ltb k N) refl (visit_low ptr N i (next_block ptr k kept after) (reads_two (suc i) kept) (next_after ptr k (reads_two (suc i) kept)))
+visit_low ptr N (suc i) k kept =
+    go (ltb k N) refl (visit_low ptr N i (next_block ptr k kept) (next_held ptr (suc i) k kept))
   where
     rest : Visited
-    rest = visit_held ptr N i (next_block ptr k kept after) (reads_two (suc i) kept) (next_after ptr k (reads_two (suc i) kept))
+    rest = visit_held ptr N i (next_block ptr k kept) (next_held ptr (suc i) k kept)
 
     go : (t : Bool) → ltb k N ≡ t → Low N rest
         → Low N (elim t [ false ↦ record { handed = []; clean = false } | true ↦ hand_on k rest ])
@@ -57,7 +58,7 @@ seen_low B N image e = go (eqb e.size 0) refl
     go true q = rw (visit_empty B N image e.head e.size (eqb-true e.size 0 q)) (below_none N)
     go false q =
         let z = eqb-false e.size 0 q in
-        rw (visit_begins B N image e.head e.size (omega arith)) (visit_low (pointer B image) N (index_at B (e.size - 1)) e.head false 0)
+        rw (visit_begins B N image e.head e.size (omega arith)) (visit_low (pointer B image) N (index_at B (e.size - 1)) e.head None)
 
 pub visits_low : (B N : ℕ) (image : List ℕ) (es : List Entry) → AllBelow N (visits_of (card_with B N image) es)
 visits_low B N image [] = AllBelow.none

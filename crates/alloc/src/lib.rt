@@ -11,7 +11,7 @@ ghost use Rattle.alloc.specs.Visits.{seen_of, seen_in};
 ghost use Rattle.alloc.specs.Allocate.{allocate_of};
 ghost use Rattle.alloc.specs.inner.Facts.{FileAsked, FileMarked, Ready};
 
-use ctz::visit::{Step, Visit};
+use ctz::visit::Visit;
 use files::{Entry, Table};
 use layout::Geometry;
 use window::{Allocated, Answer, Got, Lookahead, Scanned};
@@ -36,26 +36,18 @@ fn mark_file(
     let mut v = Visit {
         index: layout::index_at(b, bytes - 1),
         block: file.head,
-        held: false,
-        after: 0,
+        after: None,
     };
     loop {
-        let step = ctz::visit::visit_step(b, n, image, v);
-        match step {
-            Step::Damaged => {
-                return false;
+        match ctz::visit::visit_step(b, n, image, v) {
+            Ok(step) => {
+                window::map::mark(map, start, size, n, step.block);
+                match step.next {
+                    Some(next) => v = next,
+                    None => return true,
+                }
             }
-            Step::Last { block } => {
-                window::map::mark(map, start, size, n, block);
-                return true;
-            }
-            Step::More { block, next } => {
-                window::map::mark(map, start, size, n, block);
-                v = next;
-            }
-            Step::Refused => {
-                return false;
-            }
+            Err(_) => return false,
         }
     }
 }

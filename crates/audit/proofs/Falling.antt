@@ -8,27 +8,27 @@ use native.Mathlib.Omega.{arith}
 use borrow.Author.Tests.{lt-ltb, le-ltb, ltb-true, eq-eqb, ne_eqb, eqb-true, eqb-false}
 use lib.Dec.{eqb, ltb}
 use lib.ListN.{length, length-set, replicate, get_or-replicate, length-replicate}
+use Rattle.std.specs.Prelude.{Option, None, Some}
 use Rattle.span.specs.Members.{has, bit_in, with_bit_in}
 use Rattle.ctz.specs.Lists.{down}
 use Rattle.ctz.specs.inner.Forms.{pointers_with}
+use Rattle.audit.specs.declared.Fault.{Fault}
 use Rattle.audit.specs.declared.Fault.TheVariants.{NotBelow, MetBefore}
-use Rattle.audit.specs.declared.Checked.{Checked}
-use Rattle.audit.specs.declared.Checked.TheVariants.{Sound, Unsound}
 use Rattle.audit.specs.Check.{falls}
 use Rattle.audit.proofs.Bitmap.{bit_put}
 
 module _ (ptr : ℕ → ℕ → ℕ) (N : ℕ) where
-  pub falls_far : (i k : ℕ) (met : List ℕ) → N ≤ k → falls (pointers_with N ptr) i k met ≡ Unsound (NotBelow i 0)
+  pub falls_far : (i k : ℕ) (met : List ℕ) → N ≤ k → falls (pointers_with N ptr) i k met ≡ Some (NotBelow i 0)
   unfolding falls
   falls_far zero k met h = rw (falls, le-ltb k N h)
   falls_far (suc i) k met h = rw (falls, le-ltb k N h)
 
-  pub falls_again : (i k : ℕ) (met : List ℕ) → k < N → has met k ≡ true → falls (pointers_with N ptr) i k met ≡ Unsound (MetBefore i 0)
+  pub falls_again : (i k : ℕ) (met : List ℕ) → k < N → has met k ≡ true → falls (pointers_with N ptr) i k met ≡ Some (MetBefore i 0)
   unfolding falls
   falls_again zero k met h e = rw (falls, lt-ltb k N h, e)
   falls_again (suc i) k met h e = rw (falls, lt-ltb k N h, e)
 
-  pub falls_end : (i k : ℕ) (met : List ℕ) → k < N → has met k ≡ false → i ≡ 0 → falls (pointers_with N ptr) i k met ≡ Sound
+  pub falls_end : (i k : ℕ) (met : List ℕ) → k < N → has met k ≡ false → i ≡ 0 → falls (pointers_with N ptr) i k met ≡ None
   unfolding falls
   falls_end zero k met h e z = rw (falls, lt-ltb k N h, e)
   falls_end (suc i) k met h e z = absurd (omega arith)
@@ -76,18 +76,18 @@ module _ (ptr : ℕ → ℕ → ℕ) where
   down_first k zero = refl
   down_first k (suc e) = ap (λ (n : ℕ). ptr n 0) (down_first k e)
 
-  clean : (N k i : ℕ) (s t : Bool) (c : Checked) → ltb k N ≡ s
-      → elim s [
-        | false ↦ Unsound (NotBelow i 0)
-        | true ↦ elim t [ true ↦ Unsound (MetBefore i 0) | false ↦ c ]
-      ] ≡ Sound → (k < N) × (c ≡ Sound)
+  -- one index of a clean walk
+  abbrev turn : ℕ → Bool → Bool → Option Fault → Option Fault
+  turn i s t c = elim s [ false ↦ Some (NotBelow i 0) | true ↦ elim t [ true ↦ Some (MetBefore i 0) | false ↦ c ] ]
+
+  clean : (N k i : ℕ) (s t : Bool) (c : Option Fault) → ltb k N ≡ s → turn i s t c ≡ None → (k < N) × (c ≡ None)
   clean N k i false t c e h = let z : ◌≡◌ {A = ℕ} 0 1 = cc in absurd (omega arith)
   clean N k i true true c e h = let z : ◌≡◌ {A = ℕ} 0 1 = cc in absurd (omega arith)
   clean N k i true false c e h = (ltb-true k N e, h)
 
-  pub falls_below : (N i k : ℕ) (met : List ℕ) → falls (pointers_with N ptr) i k met ≡ Sound → (e : ℕ) → e ≤ i → down ptr k e < N
+  pub falls_below : (N i k : ℕ) (met : List ℕ) → falls (pointers_with N ptr) i k met ≡ None → (e : ℕ) → e ≤ i → down ptr k e < N
   unfolding falls down
-  falls_below N zero k met h zero g = (clean N k 0 (ltb k N) (has met k) Sound refl h).0
+  falls_below N zero k met h zero g = (clean N k 0 (ltb k N) (has met k) None refl h).0
   falls_below N zero k met h (suc e) g = absurd (omega arith)
   falls_below N (suc i) k met h zero g = (clean N k (suc i) (ltb k N) (has met k) (falls (pointers_with N ptr) i (ptr k 0) (k ∷ met)) refl h).0
   falls_below N (suc i) k met h (suc e) g =

@@ -1,15 +1,14 @@
 -- The visit of a list (01, "Lookup, visit, grow"), as a whole and a step at a time.
-use Rattle.std.specs.Prelude.{Bool, true, false, List, [], ◌∷◌, ℕ, zero, suc, ◌-◌, ◌%◌, ltb, eqb}
+use Rattle.std.specs.Prelude.{Bool, true, false, Option, None, Some, Result, Ok, Err, List, [], ◌∷◌, ℕ, zero, suc, ◌-◌, ◌%◌, ltb, eqb}
 use Rattle.layout.specs.declared.Geometry.{Geometry}
+use Rattle.layout.specs.declared.Refusal.{Refusal}
+use Rattle.layout.specs.declared.Refusal.TheVariants.{Invalid, Damaged}
 use Rattle.layout.specs.Numbers.{size_max}
 use Rattle.layout.specs.Geometry.{card_fits}
 use Rattle.layout.specs.Layout.{Index, BlockNumber, BlockList}
 use Rattle.card.specs.Card.{Card, is_card}
 use Rattle.ctz.specs.declared.visit.Visit.{Visit}
-use Rattle.ctz.specs.declared.visit.Begun.{Begun}
-use Rattle.ctz.specs.declared.visit.Begun.TheVariants as begun
 use Rattle.ctz.specs.declared.visit.Step.{Step}
-use Rattle.ctz.specs.declared.visit.Step.TheVariants as step
 use Rattle.ctz.specs.Lists.{top_of}
 use Rattle.ctz.specs.Lookup.{Pointers, pointers_in}
 
@@ -41,38 +40,43 @@ unfoldable pub visit_of : Card → BlockList → Visited
 visit_of c l =
     elim (eqb l.size 0) [ true ↦ record { handed = []; clean = true } | false ↦ visit (pointers_in c) (top_of c.B l) l.head ]
 
--- ---- a step at a time: a visit waits at an index with its block number; where `held`, the number of the index below it was read already, and is `after`
+-- ---- a step at a time: a visit waits at an index with its block number, and has the number of the index below it in `after` where it read that already
 
--- where it goes on behind an index above 0 (held? odd?): the held number; else pointer 0, and at an even index pointer 1 is held
-abbrev pub on_below : (BlockNumber → ℕ → BlockNumber) → Bool → Visit → Bool → Visit
-on_below stored true w odd = record { index = w.index - 1; block = w.after; held = false; after = 0 }
-on_below stored false w true = record { index = w.index - 1; block = stored w.block 0; held = false; after = 0 }
-on_below stored false w false = record { index = w.index - 1; block = stored w.block 0; held = true; after = stored w.block 1 }
+-- where it goes on behind an index above 0 (what is held; odd?): the held number; else pointer 0, and at an even index pointer 1 is held
+abbrev pub on_below : (BlockNumber → ℕ → BlockNumber) → Option BlockNumber → Visit → Bool → Visit
+on_below stored (Some k) w odd = record { index = w.index - 1; block = k; after = None }
+on_below stored None w true = record { index = w.index - 1; block = stored w.block 0; after = None }
+on_below stored None w false = record { index = w.index - 1; block = stored w.block 0; after = Some (stored w.block 1) }
 
-unfoldable pub step_of : Pointers → Visit → Step
+-- a step: the number that it hands over, and the visit that goes on behind it
+abbrev pub handing : BlockNumber → Option Visit → Result Step Refusal
+handing k next = Ok (record { block = k; next = next })
+
+-- a number not below N is -84; behind index 0 no visit goes on
+unfoldable pub step_of : Pointers → Visit → Result Step Refusal
 step_of v w =
     elim (ltb w.block v.N) [
-      | false ↦ step.Damaged
+      | false ↦ Err Damaged
       | true ↦ elim (eqb w.index 0) [
-        | true ↦ step.Last w.block
-        | false ↦ step.More w.block (on_below v.stored w.held w (eqb (w.index % 2) 1))
+        | true ↦ handing w.block None
+        | false ↦ handing w.block (Some (on_below v.stored w.after w (eqb (w.index % 2) 1)))
       ]
     ]
 
 -- the step on a card, -22 where it is none
-unfoldable pub traverse_of : Card → Visit → Step
-traverse_of c w = elim (is_card c) [ false ↦ step.Refused | true ↦ step_of (pointers_in c) w ]
+unfoldable pub traverse_of : Card → Visit → Result Step Refusal
+traverse_of c w = elim (is_card c) [ false ↦ Err Invalid | true ↦ step_of (pointers_in c) w ]
 
--- the beginning, at the last index; a size above the largest is -22
-unfoldable pub begin_of : Geometry → BlockList → Begun
+-- the beginning, at the last index, and none of an empty list; a size above the largest is -22
+unfoldable pub begin_of : Geometry → BlockList → Result (Option Visit) Refusal
 begin_of g l =
     elim (card_fits g) [
-      | false ↦ begun.Refused
+      | false ↦ Err Invalid
       | true ↦ elim (ltb size_max l.size) [
-        | true ↦ begun.Refused
+        | true ↦ Err Invalid
         | false ↦ elim (eqb l.size 0) [
-          | true ↦ begun.Empty
-          | false ↦ begun.At (record { index = top_of g.block_size l; block = l.head; held = false; after = 0 })
+          | true ↦ Ok None
+          | false ↦ Ok (Some (record { index = top_of g.block_size l; block = l.head; after = None }))
         ]
       ]
     ]

@@ -9,6 +9,7 @@ use native.Mathlib.Nat.{le_of_dvd, eq-or-lt_of_le}
 use native.Mathlib.Omega.{arith}
 use borrow.Author.Tests.{ltb-true, ltb-false, eqb-true, eqb-false}
 use lib.Dec.{ltb, eqb}
+use Rattle.std.specs.Prelude.{Option, None, Some}
 use Rattle.span.specs.Members.{has}
 use Rattle.layout.specs.Layout.{BlockList, index_at}
 use Rattle.layout.specs.inner.Served.{block_list}
@@ -21,8 +22,6 @@ use Rattle.ctz.specs.inner.Forms.{pointers_with}
 use Rattle.ctz.proofs.Sounds.{at}
 use Rattle.audit.specs.declared.Fault.{Fault}
 use Rattle.audit.specs.declared.Fault.TheVariants.{NotBelow, MetBefore, Disagrees}
-use Rattle.audit.specs.declared.Checked.{Checked}
-use Rattle.audit.specs.declared.Checked.TheVariants as checked
 use Rattle.audit.specs.Check.{falls, names, and_then, further}
 use Rattle.audit.specs.inner.Bounds.{holder}
 use Rattle.plain.specs.Faults.{CleanFrom, AgreeFrom, FirstFault, not_below, met_before, disagrees}
@@ -55,16 +54,16 @@ module _ (B N : ℕ) (image : List ℕ) (head size : ℕ) where
   Named i x = Names B image list i x
 
   -- an answer: clean with what it tells, or the first fault
-  pub data View (Told : Type 0) : Checked → Type 0 where
-    clean : Told → View Told checked.Sound
-    fault : {f : Fault} → FirstFault card list f → View Told (checked.Unsound f)
+  pub data View (Told : Type 0) : Option Fault → Type 0 where
+    clean : Told → View Told None
+    fault : {f : Fault} → FirstFault card list f → View Told (Some f)
 
   -- two checks, one after the other
-  then_view : {A D : Type 0} (a b : Checked) → View A a → (A → View D b) → View D (and_then a b)
+  then_view : {A D : Type 0} (a b : Option Fault) → View A a → (A → View D b) → View D (and_then a b)
   then_view a b (clean r) k = k r
   then_view a b (fault f) k = fault f
 
-  told : {A D : Type 0} (c : Checked) → (A → D) → View A c → View D c
+  told : {A D : Type 0} (c : Option Fault) → (A → D) → View A c → View D c
   told c k (clean r) = clean (k r)
   told c k (fault f) = fault f
 
@@ -109,10 +108,10 @@ module _ (B N : ℕ) (image : List ℕ) (head size : ℕ) where
       apart i l h t q (inr e) = c.apart i l e h t q
 
   -- one index: both tests, then what follows
-  abbrev turn : ℕ → Bool → Bool → Checked → Checked
-  turn j s t c = elim s [ false ↦ checked.Unsound (NotBelow j 0) | true ↦ elim t [ true ↦ checked.Unsound (MetBefore j 0) | false ↦ c ] ]
+  abbrev turn : ℕ → Bool → Bool → Option Fault → Option Fault
+  turn j s t c = elim s [ false ↦ Some (NotBelow j 0) | true ↦ elim t [ true ↦ Some (MetBefore j 0) | false ↦ c ] ]
 
-  falls_turn : (j : ℕ) (met : List ℕ) (c : Checked) → j ≤ top → Clean (suc j) → Met (suc j) met
+  falls_turn : (j : ℕ) (met : List ℕ) (c : Option Fault) → j ≤ top → Clean (suc j) → Met (suc j) met
       → (Clean j → Met j (blk j ∷ met) → View (Clean 0) c)
       → View (Clean 0) (turn j (ltb (blk j) N) (has met (blk j)) c)
   falls_turn j met c h a m rest = go (ltb (blk j) N) refl (has met (blk j)) refl
@@ -126,7 +125,7 @@ module _ (B N : ℕ) (image : List ℕ) (head size : ℕ) where
   falls_view : (j : ℕ) (met : List ℕ) → j ≤ top → Clean (suc j) → Met (suc j) met
       → View (Clean 0) (falls (pointers_with N ptr) j (blk j) met)
   unfolding falls
-  falls_view zero met h a m = falls_turn zero met checked.Sound h a m (λ c n. clean c)
+  falls_view zero met h a m = falls_turn zero met None h a m (λ c n. clean c)
   falls_view (suc j) met h a m =
       falls_turn (suc j) met (falls (pointers_with N ptr) j (ptr (blk (suc j)) 0) (blk (suc j) ∷ met)) h a m
       (λ c n.
@@ -165,7 +164,7 @@ module _ (B N : ℕ) (image : List ℕ) (head size : ℕ) where
             → ((y : ℕ) → 1 ≤ y → y < suc x → Named i y)
             → View ((y : ℕ) → 1 ≤ y → y ≤ ctz i → Named i y) (names ptr many (holder i (blk i)) (suc x)))
             → View ((y : ℕ) → 1 ≤ y → y ≤ ctz i → Named i y)
-            (elim t [ true ↦ names ptr many (holder i (blk i)) (suc x) | false ↦ checked.Unsound (Disagrees i x) ])
+            (elim t [ true ↦ names ptr many (holder i (blk i)) (suc x) | false ↦ Some (Disagrees i x) ])
         go true e ih = ih (omega arith) (omega arith) p h a (more (eqb-true (ptr (blk i) x) (down ptr (blk i) (2 ^ x)) e))
         go false e ih =
             fault (disagrees i x w p h o (omega arith) a b

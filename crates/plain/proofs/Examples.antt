@@ -6,6 +6,7 @@ use Prim.Native.Nat.{ℕ}
 use native.Mathlib.Omega.{arith}
 use lib.Count.{count_leading_zeros, count_trailing_zeros}
 use lib.ListN.{replicate, take, drop}
+use Rattle.std.specs.Prelude.{None, Some, Ok}
 use Rattle.span.specs.Members.{has}
 use Rattle.span.specs.Words.{word_at}
 use Rattle.layout.specs.Layout.{pointers, capacity, start, index_at, offset_at}
@@ -17,7 +18,6 @@ use Rattle.ctz.specs.Lists.{down, SoundList}
 use Rattle.ctz.specs.Lookup.{walk, walk_to, lookup_of}
 use Rattle.ctz.specs.Visits.{visit_of, visit, hand}
 use Rattle.audit.specs.declared.Fault.TheVariants.{NotBelow, Disagrees}
-use Rattle.audit.specs.declared.Checked.TheVariants.{Sound, Unsound}
 use Rattle.audit.specs.Check.{falls, names, further, check_of}
 use Rattle.plain.specs.Bytes.{span, bytes}
 use Rattle.plain.specs.Reading.{gather, read_in, Bytes, stretch_in, Given, Gathered}
@@ -41,9 +41,9 @@ card a b =
     ++ (four 3 ++ replicate 156 11)
 
 -- the list check: sound, a further pointer that disagrees, a number that is not below 7
-checked : (check_of (card_with 160 7 (card 1 1)) (block_list 2 630) ≡ Sound)
-    × (check_of (card_with 160 7 (card 6 1)) (block_list 2 630) ≡ Unsound (Disagrees 4 1))
-    × (check_of (card_with 160 7 (card 1 9)) (block_list 2 630) ≡ Unsound (NotBelow 2 0))
+checked : (check_of (card_with 160 7 (card 1 1)) (block_list 2 630) ≡ Ok None)
+    × (check_of (card_with 160 7 (card 6 1)) (block_list 2 630) ≡ Ok (Some (Disagrees 4 1)))
+    × (check_of (card_with 160 7 (card 1 9)) (block_list 2 630) ≡ Ok (Some (NotBelow 2 0)))
 unfolding check_of good_card falls has names further down pointer word_at index_at start capacity pointers count_trailing_zeros card four
 checked = (refl, refl, refl)
 

@@ -1,4 +1,4 @@
--- The list check on an image: sound exactly for sound lists, Unsound exactly with the list's first fault. There is at most one first
+-- The list check on an image: no fault exactly for sound lists, else exactly the list's first fault. There is at most one first
 -- fault, and none of a sound list, so what the answer tells also determines it. Assumes nothing.
 use mathlib.Core.Path.{◌≡◌, refl, sym, ap, ◌∙◌, subst}
 use mathlib.Core.Bool.{Bool, true, false}
@@ -7,6 +7,8 @@ use Prim.Native.Nat.{ℕ, suc, ◌-◌, ◌≤◌, ◌<◌}
 use native.Mathlib.Omega.{arith}
 use borrow.Author.Tests.{le-ltb, eq-eqb, ne_eqb, eqb-true, eqb-false, ltb-true, ltb-false}
 use lib.Dec.{eqb, ltb}
+use Rattle.std.specs.Prelude.{Option, None, Some, Result, Ok}
+use Rattle.layout.specs.declared.Refusal.{Refusal}
 use Rattle.layout.specs.Layout.{BlockList, index_at}
 use Rattle.layout.specs.inner.Served.{block_list}
 use Rattle.card.specs.Card.{Card, pointer}
@@ -15,8 +17,6 @@ use Rattle.ctz.specs.Lists.{top_of, Names, Sound, SoundList}
 use Rattle.ctz.specs.inner.Forms.{pointers_with}
 use Rattle.audit.specs.declared.Fault.{Fault}
 use Rattle.audit.specs.declared.Fault.TheVariants.{NotBelow, MetBefore, Disagrees, NotNull}
-use Rattle.audit.specs.declared.Checked.{Checked}
-use Rattle.audit.specs.declared.Checked.TheVariants as checked
 use Rattle.audit.specs.Check.{falls, and_then, further, check_of}
 use Rattle.plain.specs.Faults.{block_in, CleanFrom, FirstFault, not_below, met_before, disagrees, ListFault, not_null, on_list}
 use Rattle.plain.specs.inner.Forms.{GoodList}
@@ -72,29 +72,29 @@ module _ {B N : ℕ} {image : List ℕ} (head : ℕ) {size : ℕ} (g : GoodList 
   last = index_at B (size - 1)
 
   check_empty : size ≡ 0
-      → check_of (card_with B N image) (block_list head size) ≡ elim (eqb head 4294967295) [ true ↦ checked.Sound | false ↦ checked.Unsound (NotNull 0 0) ]
+      → check_of (card_with B N image) (block_list head size) ≡ elim (eqb head 4294967295) [ true ↦ Ok None | false ↦ Ok (Some (NotNull 0 0)) ]
   unfolding check_of
   check_empty z = rw (check_of, g.good, le-ltb 2147483647 size g.fits, eq-eqb size 0 z)
 
   check_list : (size ≡ 0 → ⊥) → check_of (card_with B N image) (block_list head size)
-      ≡ and_then (falls (pointers_with N (pointer B image)) last head []) (further (pointer B image) last head)
+      ≡ Ok (and_then (falls (pointers_with N (pointer B image)) last head []) (further (pointer B image) last head))
   unfolding check_of
   check_list z = rw (check_of, g.good, le-ltb 2147483647 size g.fits, ne_eqb size 0 z)
 
   -- an answer of the check, with what it tells
-  pub data Told : Checked → Type 0 where
-    sound : SoundList (card_with B N image) (block_list head size) → Told checked.Sound
-    first : {f : Fault} → ListFault (card_with B N image) (block_list head size) f → Told (checked.Unsound f)
+  pub data Told : Result (Option Fault) Refusal → Type 0 where
+    sound : SoundList (card_with B N image) (block_list head size) → Told (Ok None)
+    first : {f : Fault} → ListFault (card_with B N image) (block_list head size) f → Told (Ok (Some f))
 
   -- the check answers one of the two, and it is true
   pub check_told : Told (check_of (card_with B N image) (block_list head size))
   check_told = go (eqb size 0) refl
     where
-      listed : 0 < size → (c : Checked) → View B N image head size (Sound (card_with B N image) (block_list head size)) c → Told c
+      listed : 0 < size → (c : Option Fault) → View B N image head size (Sound (card_with B N image) (block_list head size)) c → Told (Ok c)
       listed h c (clean r) = sound (record { null = λ z. absurd (omega arith); list = λ l. r })
       listed h c (fault r) = first (on_list h r)
 
-      empty : size ≡ 0 → (t : Bool) → eqb head 4294967295 ≡ t → Told (elim t [ true ↦ checked.Sound | false ↦ checked.Unsound (NotNull 0 0) ])
+      empty : size ≡ 0 → (t : Bool) → eqb head 4294967295 ≡ t → Told (elim t [ true ↦ Ok None | false ↦ Ok (Some (NotNull 0 0)) ])
       empty z true e = sound (record { null = λ q. eqb-true head 4294967295 e; list = λ l. absurd (omega arith) })
       empty z false e = first (not_null z (eqb-false head 4294967295 e))
 
@@ -119,33 +119,33 @@ module _ {B N : ℕ} {image : List ℕ} (head : ℕ) {size : ℕ} (g : GoodList 
   fault_only f f' (on_list h r) (on_list h' r') = first_only f f' r r'
 
   -- THE LIST CHECK says sound for a sound list
-  pub check_sound : SoundList (card_with B N image) (block_list head size) → check_of (card_with B N image) (block_list head size) ≡ checked.Sound
+  pub check_sound : SoundList (card_with B N image) (block_list head size) → check_of (card_with B N image) (block_list head size) ≡ Ok None
   check_sound s = go (check_of (card_with B N image) (block_list head size)) check_told
     where
-      go : (c : Checked) → Told c → c ≡ checked.Sound
+      go : (c : Result (Option Fault) Refusal) → Told c → c ≡ Ok None
       go c (sound r) = refl
       go c (first {f = f} r) = absurd (sound_or_fault f s r)
 
   -- and only for such
-  pub check_tells : check_of (card_with B N image) (block_list head size) ≡ checked.Sound → SoundList (card_with B N image) (block_list head size)
+  pub check_tells : check_of (card_with B N image) (block_list head size) ≡ Ok None → SoundList (card_with B N image) (block_list head size)
   check_tells e = go (check_of (card_with B N image) (block_list head size)) check_told e
     where
-      go : (c : Checked) → Told c → c ≡ checked.Sound → SoundList (card_with B N image) (block_list head size)
+      go : (c : Result (Option Fault) Refusal) → Told c → c ≡ Ok None → SoundList (card_with B N image) (block_list head size)
       go c (sound r) e = r
       go c (first r) e = absurd (let z : ◌≡◌ {A = ℕ} 0 1 = cc in omega arith)
 
   -- a fault that it answers is the first one
-  pub check_fault : (f : Fault) → check_of (card_with B N image) (block_list head size) ≡ checked.Unsound f → ListFault (card_with B N image) (block_list head size) f
+  pub check_fault : (f : Fault) → check_of (card_with B N image) (block_list head size) ≡ Ok (Some f) → ListFault (card_with B N image) (block_list head size) f
   check_fault f e = go (check_of (card_with B N image) (block_list head size)) check_told e
     where
-      go : (c : Checked) → Told c → c ≡ checked.Unsound f → ListFault (card_with B N image) (block_list head size) f
+      go : (c : Result (Option Fault) Refusal) → Told c → c ≡ Ok (Some f) → ListFault (card_with B N image) (block_list head size) f
       go c (sound r) e = absurd (let z : ◌≡◌ {A = ℕ} 0 1 = cc in omega arith)
       go c (first {f = f'} r) e = let y : f' ≡ f = cc in subst (ListFault (card_with B N image) (block_list head size)) y r
 
   -- and the first fault is what it answers
-  pub check_first : (f : Fault) → ListFault (card_with B N image) (block_list head size) f → check_of (card_with B N image) (block_list head size) ≡ checked.Unsound f
+  pub check_first : (f : Fault) → ListFault (card_with B N image) (block_list head size) f → check_of (card_with B N image) (block_list head size) ≡ Ok (Some f)
   check_first f r = go (check_of (card_with B N image) (block_list head size)) check_told
     where
-      go : (c : Checked) → Told c → c ≡ checked.Unsound f
+      go : (c : Result (Option Fault) Refusal) → Told c → c ≡ Ok (Some f)
       go c (sound s) = absurd (sound_or_fault f s r)
-      go c (first {f = f'} r') = ap checked.Unsound (fault_only f' f r' r)
+      go c (first {f = f'} r') = ap (λ (x : Fault). Ok (Some x)) (fault_only f' f r' r)

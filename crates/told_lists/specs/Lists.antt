@@ -1,5 +1,5 @@
 -- The answers of the list calls as they are exported: 01's number and values for each case, and zeros beside a refusal.
-use Rattle.std.specs.Prelude.{Bool, true, false, not, Result, Ok, Err, ℕ, eqb}
+use Rattle.std.specs.Prelude.{true, false, Option, None, Some, Result, Ok, Err, ℕ, eqb}
 use Rattle.layout.specs.declared.Place.{Place}
 use Rattle.layout.specs.declared.Refusal.{Refusal}
 use Rattle.layout.specs.Refusals.{refusal_code}
@@ -7,14 +7,9 @@ use Rattle.layout.specs.Numbers.{accepted, invalid, damaged_card}
 use Rattle.ctz.specs.declared.Found.{Found}
 use Rattle.ctz.specs.declared.Found.TheVariants as found
 use Rattle.ctz.specs.declared.visit.Visit.{Visit}
-use Rattle.ctz.specs.declared.visit.Begun.{Begun}
-use Rattle.ctz.specs.declared.visit.Begun.TheVariants as begun
 use Rattle.ctz.specs.declared.visit.Step.{Step}
-use Rattle.ctz.specs.declared.visit.Step.TheVariants as step
 use Rattle.audit.specs.declared.Fault.{Fault}
 use Rattle.audit.specs.declared.Fault.TheVariants as fault
-use Rattle.audit.specs.declared.Checked.{Checked}
-use Rattle.audit.specs.declared.Checked.TheVariants as checked
 use Rattle.told_lists.specs.declared.TidIndex.{TidIndex}
 use Rattle.told_lists.specs.declared.TidFind.{TidFind}
 use Rattle.told_lists.specs.declared.TidPlace.{TidPlace}
@@ -38,34 +33,44 @@ fault_told (fault.MetBefore index pointer) = record { code = accepted; kind = 2;
 fault_told (fault.Disagrees index pointer) = record { code = accepted; kind = 3; index = index; pointer = pointer }
 fault_told (fault.NotNull index pointer) = record { code = accepted; kind = 4; index = index; pointer = pointer }
 
-abbrev pub checked_told : Checked → TidCheck
-checked_told checked.Sound = record { code = accepted; kind = 0; index = 0; pointer = 0 }
-checked_told (checked.Unsound f) = fault_told f
-checked_told checked.Refused = record { code = invalid; kind = 0; index = 0; pointer = 0 }
+abbrev pub checked_told : Result (Option Fault) Refusal → TidCheck
+checked_told (Ok None) = record { code = accepted; kind = 0; index = 0; pointer = 0 }
+checked_told (Ok (Some f)) = fault_told f
+checked_told (Err r) = record { code = refusal_code r; kind = 0; index = 0; pointer = 0 }
 
--- A visit's place crosses the border with `held` as a number: handed over as 0 or 1, and taken as 0 or not.
-abbrev pub held_told : Bool → ℕ
-held_told true = 1
-held_told false = 0
+-- A visit's place crosses the border with a number that is held beside `held`: handed over as 1 and the number or 0 and 0, and taken as none where `held` is 0.
+abbrev pub held_told : Option ℕ → ℕ
+held_told None = 0
+held_told (Some after) = 1
+
+abbrev pub after_told : Option ℕ → ℕ
+after_told None = 0
+after_told (Some after) = after
 
 abbrev pub next_told : Visit → TidPlace
-next_told v = record { index = v.index; block = v.block; held = held_told v.held; after = v.after }
+next_told v = record { index = v.index; block = v.block; held = held_told v.after; after = after_told v.after }
+
+abbrev pub held_asked : ℕ → ℕ → Option ℕ
+held_asked held after = elim (eqb held 0) [ true ↦ None | false ↦ Some after ]
 
 abbrev pub place_asked : TidPlace → Visit
-place_asked p = record { index = p.index; block = p.block; held = not (eqb p.held 0); after = p.after }
+place_asked p = record { index = p.index; block = p.block; after = held_asked p.held p.after }
 
 -- where no visit goes on
 abbrev pub nowhere : TidPlace
 nowhere = record { index = 0; block = 0; held = 0; after = 0 }
 
 -- `more` is 1 where the visit goes on, at `place`
-abbrev pub begun_told : Begun → TidVisit
-begun_told begun.Empty = record { code = accepted; more = 0; place = nowhere }
-begun_told (begun.At v) = record { code = accepted; more = 1; place = next_told v }
-begun_told begun.Refused = record { code = invalid; more = 0; place = nowhere }
+abbrev pub begun_told : Result (Option Visit) Refusal → TidVisit
+begun_told (Ok None) = record { code = accepted; more = 0; place = nowhere }
+begun_told (Ok (Some v)) = record { code = accepted; more = 1; place = next_told v }
+begun_told (Err r) = record { code = refusal_code r; more = 0; place = nowhere }
 
-abbrev pub step_told : Step → TidStep
-step_told (step.More block next) = record { code = accepted; block = block; more = 1; place = next_told next }
-step_told (step.Last block) = record { code = accepted; block = block; more = 0; place = nowhere }
-step_told step.Damaged = record { code = damaged_card; block = 0; more = 0; place = nowhere }
-step_told step.Refused = record { code = invalid; block = 0; more = 0; place = nowhere }
+-- a block that was handed over, and where the visit goes on behind it
+abbrev pub handed_told : ℕ → Option Visit → TidStep
+handed_told block (Some next) = record { code = accepted; block = block; more = 1; place = next_told next }
+handed_told block None = record { code = accepted; block = block; more = 0; place = nowhere }
+
+abbrev pub step_told : Result Step Refusal → TidStep
+step_told (Ok s) = handed_told s.block s.next
+step_told (Err r) = record { code = refusal_code r; block = 0; more = 0; place = nowhere }

@@ -2,11 +2,11 @@
 #![tactic(auto)]
 
 ghost use Rattle.std.specs.Prelude.{◌≡◌};
-ghost use Rattle.told_lists.specs.Lists.{place_told, found_told, place_asked, held_told, next_told, begun_told, step_told, fault_told, checked_told};
+ghost use Rattle.told_lists.specs.Lists.{place_told, found_told, place_asked, next_told, begun_told, step_told, fault_told, checked_told};
 
-use audit::{Checked, Fault};
+use audit::Fault;
 use ctz::Found;
-use ctz::visit::{Begun, Step, Visit};
+use ctz::visit::{Step, Visit};
 use layout::{Place, Refusal};
 
 #[repr(C)]
@@ -82,31 +82,36 @@ pub struct TidPlace {
     pub after: u32,
 }
 
+// Where no visit goes on.
+const NOWHERE: TidPlace = TidPlace {
+    index: 0,
+    block: 0,
+    held: 0,
+    after: 0,
+};
+
 pub fn place_asked(p: TidPlace) -> Visit
     ensures { result ≡ place_asked p }
 {
     Visit {
         index: p.index,
         block: p.block,
-        held: p.held != 0,
-        after: p.after,
+        after: if p.held == 0 { None } else { Some(p.after) },
     }
-}
-
-fn held_told(b: bool) -> u32
-    ensures { result ≡ held_told b }
-{
-    b as u32
 }
 
 fn next_told(v: Visit) -> TidPlace
     ensures { result ≡ next_told v }
 {
+    let (held, after) = match v.after {
+        Some(after) => (1, after),
+        None => (0, 0),
+    };
     TidPlace {
         index: v.index,
         block: v.block,
-        held: held_told(v.held),
-        after: v.after,
+        held,
+        after,
     }
 }
 
@@ -119,34 +124,24 @@ pub struct TidVisit {
     pub place: TidPlace,
 }
 
-pub fn begun_told(b: Begun) -> TidVisit
+pub fn begun_told(b: Result<Option<Visit>, Refusal>) -> TidVisit
     ensures { result ≡ begun_told b }
 {
     match b {
-        Begun::Empty => TidVisit {
-            code: 0,
-            more: 0,
-            place: TidPlace {
-                index: 0,
-                block: 0,
-                held: 0,
-                after: 0,
-            },
-        },
-        Begun::At { visit } => TidVisit {
+        Ok(Some(visit)) => TidVisit {
             code: 0,
             more: 1,
             place: next_told(visit),
         },
-        Begun::Refused => TidVisit {
-            code: -22,
+        Ok(None) => TidVisit {
+            code: 0,
             more: 0,
-            place: TidPlace {
-                index: 0,
-                block: 0,
-                held: 0,
-                after: 0,
-            },
+            place: NOWHERE,
+        },
+        Err(refusal) => TidVisit {
+            code: refusal.code(),
+            more: 0,
+            place: NOWHERE,
         },
     }
 }
@@ -161,48 +156,27 @@ pub struct TidStep {
     pub place: TidPlace,
 }
 
-pub fn step_told(s: Step) -> TidStep
+pub fn step_told(s: Result<Step, Refusal>) -> TidStep
     ensures { result ≡ step_told s }
 {
     match s {
-        Step::Damaged => TidStep {
-            code: -84,
+        Ok(step) => {
+            let (more, place) = match step.next {
+                Some(next) => (1, next_told(next)),
+                None => (0, NOWHERE),
+            };
+            TidStep {
+                code: 0,
+                block: step.block,
+                more,
+                place,
+            }
+        }
+        Err(refusal) => TidStep {
+            code: refusal.code(),
             block: 0,
             more: 0,
-            place: TidPlace {
-                index: 0,
-                block: 0,
-                held: 0,
-                after: 0,
-            },
-        },
-        Step::Last { block } => TidStep {
-            code: 0,
-            block: block,
-            more: 0,
-            place: TidPlace {
-                index: 0,
-                block: 0,
-                held: 0,
-                after: 0,
-            },
-        },
-        Step::More { block, next } => TidStep {
-            code: 0,
-            block: block,
-            more: 1,
-            place: next_told(next),
-        },
-        Step::Refused => TidStep {
-            code: -22,
-            block: 0,
-            more: 0,
-            place: TidPlace {
-                index: 0,
-                block: 0,
-                held: 0,
-                after: 0,
-            },
+            place: NOWHERE,
         },
     }
 }
@@ -221,47 +195,33 @@ pub struct TidCheck {
 fn fault_told(f: Fault) -> TidCheck
     ensures { result ≡ fault_told f }
 {
-    match f {
-        Fault::NotBelow { index, pointer } => TidCheck {
-            code: 0,
-            kind: 1,
-            index: index,
-            pointer: pointer,
-        },
-        Fault::MetBefore { index, pointer } => TidCheck {
-            code: 0,
-            kind: 2,
-            index: index,
-            pointer: pointer,
-        },
-        Fault::Disagrees { index, pointer } => TidCheck {
-            code: 0,
-            kind: 3,
-            index: index,
-            pointer: pointer,
-        },
-        Fault::NotNull { index, pointer } => TidCheck {
-            code: 0,
-            kind: 4,
-            index: index,
-            pointer: pointer,
-        },
+    let (kind, index, pointer) = match f {
+        Fault::NotBelow { index, pointer } => (1, index, pointer),
+        Fault::MetBefore { index, pointer } => (2, index, pointer),
+        Fault::Disagrees { index, pointer } => (3, index, pointer),
+        Fault::NotNull { index, pointer } => (4, index, pointer),
+    };
+    TidCheck {
+        code: 0,
+        kind,
+        index,
+        pointer,
     }
 }
 
-pub fn checked_told(a: Checked) -> TidCheck
+pub fn checked_told(a: Result<Option<Fault>, Refusal>) -> TidCheck
     ensures { result ≡ checked_told a }
 {
     match a {
-        Checked::Sound => TidCheck {
+        Ok(Some(fault)) => fault_told(fault),
+        Ok(None) => TidCheck {
             code: 0,
             kind: 0,
             index: 0,
             pointer: 0,
         },
-        Checked::Unsound { fault } => fault_told(fault),
-        Checked::Refused => TidCheck {
-            code: -22,
+        Err(refusal) => TidCheck {
+            code: refusal.code(),
             kind: 0,
             index: 0,
             pointer: 0,

@@ -2,7 +2,7 @@
 use mathlib.Core.Path.{sym, ◌∙◌}
 use native.Mathlib.Omega.{arith}
 use Rattle.layout.proofs.Served.{served}
-use Rattle.ctz.proofs.Visiting.{visit_damaged, visit_last, visit_more, step_answers}
+use Rattle.ctz.proofs.Visiting.{visit_damaged, step_below, visit_last, visit_more}
 use Rattle.alloc.proofs.Files.{goes, goes_on, goes_last, goes_wrong, no_block, mark_asked}
 use borrow.Author.Rules.{rules}
 use Rattle.alloc.proofs.mark_file.Goals as goal
@@ -13,36 +13,27 @@ returns-then-bytes-eq0 c = no_block _ _ _ _ _ _ _ _ c.if-bytes-eq0.true
 pub index_at-requires : goal.index_at-requires
 index_at-requires c = served c.requires.card.sized (search rules)
 
-pub loop-block-init : goal.loop-block-init
-loop-block-init c = goes _ _ _ _ _ _ _ _ _ c.if-bytes-eq0.false c.index_at.ensures
+pub loop-step-init : goal.loop-step-init
+loop-step-init c = goes _ _ _ _ _ _ _ _ _ c.if-bytes-eq0.false c.index_at.ensures
 
-pub visit_step-step-requires : goal.visit_step-step-requires
-visit_step-step-requires c = c.requires.card
-
-pub returns-in-Damaged : goal.returns-in-Damaged
-returns-in-Damaged c =
-    goes_wrong c.loop-block.invariant (visit_damaged _ _ _ (sym c.visit_step-step.ensures ∙ c.in-Damaged.is))
+pub visit_step-requires : goal.visit_step-requires
+visit_step-requires c = c.requires.card
 
 pub mark-requires : goal.mark-requires
-mark-requires c =
-    mark_asked c.requires (visit_last _ _ _ (sym c.visit_step-step.ensures ∙ c.in-Last.is)).0
+mark-requires c = mark_asked c.requires (step_below _ _ _ (sym c.visit_step.ensures ∙ c.in-Ok.is))
 
-pub returns-in-Last : goal.returns-in-Last
-returns-in-Last c =
-    goes_last c.loop-block.invariant (visit_last _ _ _ (sym c.visit_step-step.ensures ∙ c.in-Last.is)).1 c.mark.ensures
+pub loop-step-smaller : goal.loop-step-smaller
+loop-step-smaller c =
+    omega (arith, (visit_more _ _ _ (sym c.visit_step.ensures ∙ c.in-Ok.is) c.in-Some.is).falls)
 
-pub mark-requires-in-More : goal.mark-requires-in-More
-mark-requires-in-More c =
-    mark_asked c.requires (visit_more _ _ _ (sym c.visit_step-step.ensures ∙ c.in-More.is)).below
+pub loop-step-preserved : goal.loop-step-preserved
+loop-step-preserved c =
+    goes_on c.loop-step.invariant (visit_more _ _ _ (sym c.visit_step.ensures ∙ c.in-Ok.is) c.in-Some.is).rest c.mark.ensures
 
-pub loop-block-smaller : goal.loop-block-smaller
-loop-block-smaller c =
-    omega (arith, (visit_more _ _ _ (sym c.visit_step-step.ensures ∙ c.in-More.is)).falls)
+pub returns-in-None : goal.returns-in-None
+returns-in-None c =
+    goes_last c.loop-step.invariant (visit_last _ _ _ (sym c.visit_step.ensures ∙ c.in-Ok.is) c.in-None.is).1 c.mark.ensures
 
-pub loop-block-preserved : goal.loop-block-preserved
-loop-block-preserved c =
-    goes_on c.loop-block.invariant (visit_more _ _ _ (sym c.visit_step-step.ensures ∙ c.in-More.is)).rest c.mark-in-More.ensures
-
-pub returns-in-Refused : goal.returns-in-Refused
-returns-in-Refused c =
-    absurd (step_answers _ _ _ (sym c.visit_step-step.ensures ∙ c.in-Refused.is))
+pub returns-in-Err : goal.returns-in-Err
+returns-in-Err c =
+    goes_wrong c.loop-step.invariant (visit_damaged _ _ _ (sym c.visit_step.ensures ∙ c.in-Err.is))

@@ -7,8 +7,8 @@ use Rattle.ctz.proofs.Visiting.{visit_from}
 use Rattle.alloc.proofs.Files.{Goes}
 use Rattle.alloc.proofs.mark_file.Given as goal
 
-abbrev pub invariant-loop-block : goal.invariant-loop-block
-invariant-loop-block l = Goes l.start l.size l.n l.initial.map (visit_of (card_with l.b l.n l.image) (block_list l.initial.v.block l.bytes)) l.map (visit_from (pointer l.b l.image) l.n l.v)
+abbrev pub invariant-loop-step : goal.invariant-loop-step
+invariant-loop-step l = Goes l.start l.size l.n l.initial.map (visit_of (card_with l.b l.n l.image) (block_list l.initial.v.block l.bytes)) l.map (visit_from (pointer l.b l.image) l.n l.v)
 
-abbrev pub decreases-loop-block : goal.decreases-loop-block
-decreases-loop-block l = l.v.index
+abbrev pub decreases-loop-step : goal.decreases-loop-step
+decreases-loop-step l = l.v.index

@@ -1,4 +1,4 @@
--- `audit::further_from` meets its contract. The loop's invariant: the answer is still that of the indexes from i down, on a clean walk.
+-- `audit::further_from` meets its contract. The loop's invariant: the answer is still that of the indexes from here down, on a clean walk.
 -- Assumes nothing.
 use mathlib.Core.Path.{◌≡◌}
 use Rattle.card.specs.Card.{pointer}
@@ -6,8 +6,5 @@ use Rattle.audit.specs.Check.{further}
 use Rattle.audit.specs.inner.Bounds.{CleanWalk}
 use Rattle.audit.proofs.further_from.Given as goal
 
-abbrev pub invariant-loop-i : goal.invariant-loop-i
-invariant-loop-i l = (further (pointer l.b l.image) l.top l.head ≡ further (pointer l.b l.image) l.i l.k) × CleanWalk l.image l.b l.n l.i l.k
-
-abbrev pub decreases-loop-i : goal.decreases-loop-i
-decreases-loop-i l = l.i
+abbrev pub invariant-loop-index : goal.invariant-loop-index
+invariant-loop-index l = (further (pointer l.b l.image) l.top l.head ≡ further (pointer l.b l.image) l.index l.k) × CleanWalk l.image l.b l.n l.index l.k

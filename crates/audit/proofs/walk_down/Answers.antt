@@ -7,63 +7,41 @@ use native.Mathlib.Omega.{arith}
 use Rattle.span.specs.Members.{has}
 use Rattle.card.specs.Card.{pointer}
 use Rattle.ctz.specs.inner.Forms.{pointers_with}
-use Rattle.ctz.proofs.Room.{first_asked}
 use Rattle.audit.specs.Check.{falls}
 use Rattle.audit.proofs.Falling.{agree_none, agree_put, falls_far, falls_again, falls_end, falls_on}
 use Rattle.audit.proofs.walk_down.Goals as goal
+use Rattle.audit.proofs.walk_down.Goals.{then-index-gt0, else-index-gt0}
 
-pub loop-k-init : goal.loop-k-init
-loop-k-init c = ([], agree_none, refl)
+pub loop-index-init : goal.loop-index-init
+loop-index-init c = ([], agree_none, refl)
 
 pub returns-then-n-k : goal.returns-then-n-k
-returns-then-n-k c = sym (c.loop-k.invariant.2 ∙ falls_far _ _ _ _ _ c.if-n-k.true)
-
-pub test-requires : goal.test-requires
-test-requires c = omega arith
+returns-then-n-k c = sym (c.loop-index.invariant.2 ∙ falls_far _ _ _ _ _ c.if-n-k.true)
 
 pub returns-then-test : goal.returns-then-test
 returns-then-test c =
-    let told : let l = c.loop-k in c.test.result ≡ has l.invariant.0 l.k =
-    let l = c.loop-k in
-    let k : l.k < 65536 = omega arith in
-    c.test.ensures ∙ l.invariant.1.bit l.k k in
-    let l = c.loop-k in
+    let l = c.loop-index in
+    let told : c.test.result ≡ has l.invariant.0 l.k = c.test.ensures ∙ l.invariant.1.bit l.k (omega arith) in
     sym (l.invariant.2 ∙ falls_again _ _ _ _ _ c.if-n-k.false (sym told ∙ c.if-test.true))
 
-pub put-requires : goal.put-requires
-put-requires c = omega arith
-
-pub returns-then-i-eq0 : goal.returns-then-i-eq0
-returns-then-i-eq0 c =
-    let told : let l = c.loop-k in c.test.result ≡ has l.invariant.0 l.k =
-    let l = c.loop-k in
-    let k : l.k < 65536 = omega arith in
-    c.test.ensures ∙ l.invariant.1.bit l.k k in
-    let l = c.loop-k in
-    sym (l.invariant.2 ∙ falls_end _ _ _ _ _ c.if-n-k.false (sym told ∙ c.if-test.false) c.if-i-eq0.true)
-
-pub pointer-k-requires : goal.pointer-k-requires
-pointer-k-requires c =
-    first_asked c.requires c.if-n-k.false
-
-pub overflow_sub-i : goal.overflow_sub-i
-overflow_sub-i c = omega (arith, c.if-i-eq0.false)
-
-pub loop-k-smaller : goal.loop-k-smaller
-loop-k-smaller c = omega (arith, c.if-i-eq0.false)
-
-pub loop-k-preserved : goal.loop-k-preserved
-loop-k-preserved c =
-    let told : let l = c.loop-k in c.test.result ≡ has l.invariant.0 l.k =
-    let l = c.loop-k in
-    let k : l.k < 65536 = omega arith in
-    c.test.ensures ∙ l.invariant.1.bit l.k k in
-    let l = c.loop-k in
+pub loop-index-preserved : goal.loop-index-preserved
+loop-index-preserved c =
+    let l = c.loop-index in
     let a = c.args in
     let k : l.k < 65536 = omega arith in
-    let on = falls_on (pointer a.b a.image.now) _ _ _ _ c.if-n-k.false (sym told ∙ c.if-test.false) c.if-i-eq0.false in (
+    let told : c.test.result ≡ has l.invariant.0 l.k = c.test.ensures ∙ l.invariant.1.bit l.k k in (
       l.k ∷ l.invariant.0,
       rw c.put.ensures (agree_put _ _ _ k l.invariant.1),
-      l.invariant.2 ∙ on
-          ∙ ap (λ (q : ℕ). falls (pointers_with a.n (pointer a.b a.image.now)) (l.i - 1) q (l.k ∷ l.invariant.0)) (sym c.pointer-k.ensures),
+      elim c.if-index-gt0.branch [
+        | then-index-gt0 w ↦
+            l.invariant.2 ∙ falls_on (pointer a.b a.image.now) _ _ _ _ c.if-n-k.false (sym told ∙ c.if-test.false) (λ z. omega arith)
+            ∙ ap (λ (q : ℕ). falls (pointers_with a.n (pointer a.b a.image.now)) (l.index - 1) q (l.k ∷ l.invariant.0)) (sym (w.k-is ∙ w.pointer-k.ensures))
+        | else-index-gt0 w ↦ absurd (omega arith)
+      ],
     )
+
+pub returns-after-index-gt0 : goal.returns-after-index-gt0
+returns-after-index-gt0 c =
+    let l = c.loop-index in
+    let told : c.test.result ≡ has l.invariant.0 l.k = c.test.ensures ∙ l.invariant.1.bit l.k (omega arith) in
+    sym (l.invariant.2 ∙ falls_end _ _ _ _ _ c.if-n-k.false (sym told ∙ c.if-test.false) (omega arith))

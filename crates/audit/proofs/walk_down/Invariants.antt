@@ -9,8 +9,5 @@ use Rattle.audit.specs.Check.{falls}
 use Rattle.audit.proofs.Falling.{Agrees}
 use Rattle.audit.proofs.walk_down.Given as goal
 
-abbrev pub invariant-loop-k : goal.invariant-loop-k
-invariant-loop-k l = (ms : List ℕ) × Agrees l.met ms × (falls (pointers_with l.n (pointer l.b l.image)) l.top l.head [] ≡ falls (pointers_with l.n (pointer l.b l.image)) l.i l.k ms)
-
-abbrev pub decreases-loop-k : goal.decreases-loop-k
-decreases-loop-k l = l.i
+abbrev pub invariant-loop-index : goal.invariant-loop-index
+invariant-loop-index l = (ms : List ℕ) × Agrees l.met ms × (falls (pointers_with l.n (pointer l.b l.image)) l.top l.head [] ≡ falls (pointers_with l.n (pointer l.b l.image)) l.index l.k ms)
