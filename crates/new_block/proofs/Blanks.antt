@@ -5,8 +5,7 @@ use Prim.Native.Nat.{ℕ, ◌+◌, ◌-◌, min, ◌≤◌, ◌<◌}
 use native.Mathlib.Nat.{min-le_left, min-le_right}
 use native.Mathlib.Omega.{arith}
 use lib.ListN.{length, take, drop, replicate, length-take, length-drop, length-replicate}
-use Rattle.device.specs.declared.Programmed.{Programmed}
-use Rattle.device.specs.inner.Steps.{program_of, ProgramGives}
+use Rattle.device.specs.inner.Steps.{Answer, program_of, StepGives}
 use Rattle.device.specs.inner.Bounds.{Blank}
 use Rattle.device.proofs.Blanks.{blank_part, blank_stored, blank_programmed}
 use Rattle.new_block.specs.inner.Fill.{fronted}
@@ -20,7 +19,7 @@ module _ {B k off n : ℕ} {img : List ℕ} (x gap : ℕ) (eg : gap ≡ min x n)
   pub zeros_blank : Blank B k off gap img
   zeros_blank = blank_part off gap (omega arith) (omega (arith, min-le_right x n)) b
 
-  pub data_blank : {r : Programmed} {img₁ : List ℕ} (health : List ℕ) → ProgramGives (program_of health B k off (replicate gap 0) img) r img₁
+  pub data_blank : {r : Answer} {img₁ : List ℕ} (health : List ℕ) → StepGives (program_of health B k off (replicate gap 0) img) r img₁
       → (y run : ℕ) → run ≡ min (n - gap) y → Blank B k (off + gap) run img₁
   data_blank health g y run er =
       blank_programmed health off (replicate gap 0) g (omega (arith, length-replicate {A = ℕ} gap 0))

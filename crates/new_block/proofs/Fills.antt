@@ -11,13 +11,11 @@ use lib.ListN.{length, take, drop, replicate, length-drop, drop_of_length-le}
 use lib.Seq.{take_all, take-nil}
 use Rattle.layout.specs.Numbers.{size_max}
 use Rattle.health.specs.Health.{refuses_program}
-use Rattle.device.specs.declared.Programmed.{Programmed}
-use Rattle.device.specs.declared.Programmed.TheVariants.{Stored, Refused}
 use Rattle.device.specs.Device.{stored}
 use Rattle.device.specs.inner.Bounds.{spot, RoomIn, Blank}
-use Rattle.device.specs.inner.Steps.{ProgramOut, program_of, ProgramGives}
+use Rattle.device.specs.inner.Steps.{Answer, done, refused, program_of, StepGives}
 use Rattle.device.proofs.Blanks.{blank_part}
-use Rattle.device.proofs.Steps.{program_stored, told_stored, told_refused}
+use Rattle.device.proofs.Steps.{gives_refused, step_on, told_done, told_refused}
 use Rattle.files.specs.declared.Entry.{Entry}
 use Rattle.grow.specs.inner.Attempt.{Linking}
 use Rattle.grow.proofs.Rooms.{room_of}
@@ -55,50 +53,23 @@ run_cut a n l = go (leb a (length l)) refl
 -- ---- the front
 
 module _ (health : List ℕ) (B k off s n pos : ℕ) (src img : List ℕ) where
-  pub front_refused : refuses_program health k ≡ true → front_of health B k off s n pos src img ≡ record { answer = Refused; image = img }
-  unfolding front_of
-  front_refused e = rw (front_of, e)
-
-  pub front_stored : refuses_program health k ≡ false
-      → front_of health B k off s n pos src img ≡ record { answer = Stored; image = fronted B k off s n pos src img }
-  unfolding front_of
-  front_stored e = rw (front_of, e)
-
   -- the zeros first: x is how far the gap goes
-  module _ (x gap : ℕ) (ex : x ≡ pos - s) (eg : gap ≡ min x n) {r : Programmed} {img₁ : List ℕ} (p : ProgramGives (program_of health B k off (replicate gap 0) img) r img₁) where
-    pub front_spoiled : r ≡ Refused → ProgramGives (front_of health B k off s n pos src img) Refused img₁
+  module _ (x gap : ℕ) (ex : x ≡ pos - s) (eg : gap ≡ min x n) {r : Answer} {img₁ : List ℕ} (p : StepGives (program_of health B k off (replicate gap 0) img) r img₁) where
+    pub front_spoiled : r ≡ refused → StepGives (front_of health B k off s n pos src img) refused img₁
     front_spoiled e =
-        let t = told_refused health B k off (replicate gap 0) img (sym p.answer ∙ e) in
-        rw (front_refused t.0) (record { answer = refl; image = p.image ∙ t.1 })
+        let t = told_refused (refuses_program health k) img (stored B img (spot k off) (replicate gap 0)) (sym p.answer ∙ e) in
+        rw (p.image, t.1) (gives_refused _ _ _ t.0)
 
-    pub front_goes : r ≡ Stored → (y from run : ℕ) → y ≡ s - pos → from ≡ min y (length src) → run ≡ min (n - gap) (length src - from)
-        → {q : Programmed} {img₂ : List ℕ} → ProgramGives (program_of health B k (off + gap) (take run (drop from src)) img₁) q img₂
-        → ProgramGives (front_of health B k off s n pos src img) q img₂
+    pub front_goes : r ≡ done → (y from run : ℕ) → y ≡ s - pos → from ≡ min y (length src) → run ≡ min (n - gap) (length src - from)
+        → {q : Answer} {img₂ : List ℕ} → StepGives (program_of health B k (off + gap) (take run (drop from src)) img₁) q img₂
+        → StepGives (front_of health B k off s n pos src img) q img₂
     unfolding fronted
     front_goes e y from run ey ef er {q} {img₂} g =
-        let t = told_stored health B k off (replicate gap 0) img (sym p.answer ∙ e) in
+        let t = told_done (refuses_program health k) img (stored B img (spot k off) (replicate gap 0)) (sym p.answer ∙ e) in
         let d : img₁ ≡ stored B img (spot k off) (replicate gap 0) = p.image ∙ t.1 in
         let u : gap ≡ min (pos - s) n = eg ∙ ap (λ (z : ℕ). min z n) ex in
         let v : take run (drop from src) ≡ take (n - gap) (drop (s - pos) src) = rw (er, ef, ey) (sym (run_cut (s - pos) (n - gap) src)) in
-        rw (front_stored t.0, fronted, ← u, ← v, ← d) (rw (program_stored health B k (off + gap) (take run (drop from src)) img₁ t.0) at g)
-
-  -- what the answer tells
-  pub told_front : (front_of health B k off s n pos src img).answer ≡ Stored
-      → (refuses_program health k ≡ false) × ((front_of health B k off s n pos src img).image ≡ fronted B k off s n pos src img)
-  told_front t = go (refuses_program health k) refl
-    where
-      go : (x : Bool) → refuses_program health k ≡ x
-          → (refuses_program health k ≡ false) × ((front_of health B k off s n pos src img).image ≡ fronted B k off s n pos src img)
-      go true e = let z : Refused ≡ Stored = sym (ap (λ (o : ProgramOut). o.answer) (front_refused e)) ∙ t in let y : ◌≡◌ {A = ℕ} 0 1 = cc in absurd (omega arith)
-      go false e = (e, ap (λ (o : ProgramOut). o.image) (front_stored e))
-
-  pub told_spoiled : (front_of health B k off s n pos src img).answer ≡ Refused
-      → (refuses_program health k ≡ true) × ((front_of health B k off s n pos src img).image ≡ img)
-  told_spoiled t = go (refuses_program health k) refl
-    where
-      go : (x : Bool) → refuses_program health k ≡ x → (refuses_program health k ≡ true) × ((front_of health B k off s n pos src img).image ≡ img)
-      go true e = (e, ap (λ (o : ProgramOut). o.image) (front_refused e))
-      go false e = let z : Stored ≡ Refused = sym (ap (λ (o : ProgramOut). o.answer) (front_stored e)) ∙ t in let y : ◌≡◌ {A = ℕ} 0 1 = cc in absurd (omega arith)
+        rw (fronted, ← u, ← v, ← d) (step_on (refuses_program health k) img _ img₁ t.0 g)
 
 -- ---- the whole block
 
@@ -106,10 +77,8 @@ pub filled : {o : FillOut} (r : Filled) (after : List ℕ) → o ≡ record { an
 filled r after e = rw e (record { answer = refl; image = refl })
 
 -- the block's share, as the code has it
-pub share_is : (B : ℕ) (j : Job) (off s y m : ℕ) → y ≡ over j - j.old → m ≡ min (j.old + y - s) (B - off) → m ≡ share B j off s
-share_is B j off s y m e f =
-    let w : j.old + y ≡ new j = omega arith in
-    f ∙ ap (λ (x : ℕ). min (x - s) (B - off)) w
+pub share_is : (B : ℕ) (j : Job) (off s y m : ℕ) → y ≡ max j.old (over j) → m ≡ min (y - s) (B - off) → m ≡ share B j off s
+share_is B j off s y m e f = f ∙ ap (λ (x : ℕ). min (x - s) (B - off)) e
 
 -- the runs stay in the block
 pub share_fits : (B : ℕ) (j : Job) (off s m : ℕ) → m ≡ share B j off s → off < B → off + m ≤ B
@@ -138,7 +107,7 @@ module _ (look : List ℕ → ℕ → Look) (health : List ℕ) (B : ℕ) (j : J
 
 -- the same by the code's numbers: m is the block's share
 module _ {B N : ℕ} {e : Entry} {pos : ℕ} {src : List ℕ} {k off s : ℕ} {image health : List ℕ} (f : Filling B N e pos src k off s image health)
-    {y m : ℕ} (ey : y ≡ pos + length src - e.size) (em : m ≡ min (e.size + y - s) (B - off)) where
+    {y m : ℕ} (ey : y ≡ max e.size (pos + length src)) (em : m ≡ min (y - s) (B - off)) where
   shared : m ≡ share B (job_of e pos src) off s
   shared = share_is B (job_of e pos src) off s y m ey em
 
@@ -150,15 +119,15 @@ module _ {B N : ℕ} {e : Entry} {pos : ℕ} {src : List ℕ} {k off s : ℕ} {i
       let link : Linking B N k image health = record { card = f.card; known = f.known; block = f.block } in
       (room_of off m image link refl fits, omega (arith, f.fits), blank_part off m (omega arith) (omega (arith, fits)) f.clean)
 
-  module _ {r : Programmed} {img₁ : List ℕ} (p : ProgramGives (front_of health B k off s m pos src image) r img₁) where
-    pub fill_spoiled : r ≡ Refused → FillGives (fill_of (look_in B N e) health B (job_of e pos src) k off s image) Spoiled img₁
+  module _ {r : Answer} {img₁ : List ℕ} (p : StepGives (front_of health B k off s m pos src image) r img₁) where
+    pub fill_spoiled : r ≡ refused → FillGives (fill_of (look_in B N e) health B (job_of e pos src) k off s image) Spoiled img₁
     fill_spoiled x =
-        let t = told_spoiled health B k off s m pos src image (sym p.answer ∙ x) in
+        let t = told_refused (refuses_program health k) image (fronted B k off s m pos src image) (sym p.answer ∙ x) in
         filled Spoiled img₁ (rw (p.image, t.1) (fill_refused (look_in B N e) health B (job_of e pos src) k off s image t.0))
 
-    module _ (x : r ≡ Stored) where
+    module _ (x : r ≡ done) where
       stores : (refuses_program health k ≡ false) × ((front_of health B k off s m pos src image).image ≡ fronted B k off s m pos src image)
-      stores = told_front health B k off s m pos src image (sym p.answer ∙ x)
+      stores = told_done (refuses_program health k) image (fronted B k off s m pos src image) (sym p.answer ∙ x)
 
       pub tail_asked : length img₁ ≡ length image → Tailing B N e k off s m (pos + length src) img₁ health
       tail_asked same =

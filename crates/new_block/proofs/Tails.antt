@@ -5,10 +5,9 @@ use Prim.Native.Nat.{ℕ, ◌+◌, ◌-◌, ◌*◌, ◌≤◌, ◌<◌}
 use native.Mathlib.Omega.{arith}
 use borrow.Author.Tests.{lt-ltb, le-ltb}
 use lib.ListN.{length, take, drop}
-use Rattle.device.specs.declared.Programmed.{Programmed}
-use Rattle.device.specs.inner.Steps.{ProgramOut, program_of, ProgramGives}
+use Rattle.device.specs.inner.Steps.{Answer, program_of, StepGives}
 use Rattle.device.specs.inner.Bounds.{RoomIn, CopyFrom, Blank}
-use Rattle.device.proofs.Steps.{program_stored}
+use Rattle.device.proofs.Steps.{step_takes}
 use Rattle.ctz.specs.inner.Bounds.{ListFacts}
 use Rattle.files.specs.declared.Entry.{Entry}
 use Rattle.grow.specs.inner.Attempt.{Linking}
@@ -53,12 +52,11 @@ module _ {B N : ℕ} {e : Entry} {k off s m past : ℕ} {image health : List ℕ
             let below : ob < N = look_below e image (s + at) ob tail_looks.0 tail_looks.1 found in
             (room_of (off + at) (m - at) image link refl room, source_of ob (off + at) (m - at) link below room, rw ea (f.clean (omega arith)))
 
-        pub tail_copied : {q : Programmed} {after : List ℕ}
-            → ProgramGives (program_of health B k (off + at) (take (m - at) (drop (ob * B + (off + at)) image)) image) q after
+        pub tail_copied : {q : Answer} {after : List ℕ}
+            → StepGives (program_of health B k (off + at) (take (m - at) (drop (ob * B + (off + at)) image)) image) q after
             → FillGives (tail_of (look_in B N e) B k off s m past image) (Done (s + m)) after
         unfolding tail_of tailed part
         tail_copied {q} {after} g =
-            let copied = program_stored health B k (off + at) (take (m - at) (drop (ob * B + (off + at)) image)) image f.takes in
+            let copied = (step_takes _ _ _ f.takes g).1 in
             filled (Done (s + m)) after (rw (tail_of, ← ea, lt-ltb at m l, ← ea, found)
-            (ap (λ (i : List ℕ). record { answer = Done (s + m); image = i })
-            (sym (g.image ∙ ap (λ (o : ProgramOut). o.image) copied ∙ rw (tailed, part, ← ea)))))
+            (ap (λ (i : List ℕ). record { answer = Done (s + m); image = i }) (sym (copied ∙ rw (tailed, part, ← ea)))))

@@ -1,19 +1,16 @@
 // One new block, filled with gap, data and tail.
 #![tactic(auto)]
 
-pub mod numbers;
-
 ghost use Rattle.std.specs.Prelude.{◌≤◌, length};
 ghost use Rattle.layout.specs.Numbers.{size_max};
-ghost use Rattle.device.specs.inner.Steps.{ProgramGives};
+ghost use Rattle.device.specs.inner.Steps.{StepGives};
 ghost use Rattle.device.specs.inner.Bounds.{RoomIn, Blank};
 ghost use Rattle.old_list.specs.Write.{job_of};
 ghost use Rattle.old_list.specs.inner.Lookups.{look_in};
 ghost use Rattle.new_block.specs.inner.Fill.{front_of, tail_of, fill_of, FillGives, Tailing, Filling};
 
-use device::Programmed;
+use device::Spoiled;
 use files::Entry;
-use numbers::{beyond, least};
 use old_list::{Looked, look};
 
 // What filling a new block gives: the size so far, that the block refused, or -84.
@@ -35,23 +32,17 @@ fn front(
     m: u32,
     pos: u32,
     data: &[u8],
-) -> Programmed
+) -> Result<(), Spoiled>
     requires { RoomIn b k off m image.old health.now × (length «data».now ≤ size_max) × Blank b k off m image.old }
-    ensures { ProgramGives
+    ensures { StepGives
         (front_of health.now b k off s m pos «data».now image.old)
         result image.new }
 {
-    let gap = least(beyond(pos, s), m);
-    let put = programs::program_zeros(image, health, b, k, off, gap);
-    match put {
-        Programmed::Stored => {}
-        Programmed::Refused => {
-            return Programmed::Refused;
-        }
-    }
+    let gap = pos.saturating_sub(s).min(m);
+    programs::program_zeros(image, health, b, k, off, gap)?;
     let size = data.len() as u32;
-    let from = least(beyond(s, pos), size);
-    let run = least(m - gap, size - from);
+    let from = s.saturating_sub(pos).min(size);
+    let run = (m - gap).min(size - from);
     programs::program(
         image,
         health,
@@ -82,14 +73,15 @@ fn tail(
         (tail_of (look_in b n e) b k off s m past image.old)
         result image.new }
 {
-    let at = beyond(past, s);
+    let at = past.saturating_sub(s);
     if m <= at {
         return Filled::Done(s + m);
     }
     let old = look(b, n, &image[..], e, s + at);
     match old {
         Looked::Block(block) => {
-            programs::program_copy(image, health, b, k, off + at, block, off + at, m - at);
+            // The block took its front, so it takes this too.
+            programs::program_copy(image, health, b, k, off + at, block, off + at, m - at).unwrap();
             Filled::Done(s + m)
         }
         Looked::Lost => Filled::Damaged,
@@ -115,11 +107,10 @@ pub fn fill_block(
         result image.new }
 {
     let past = pos + data.len() as u32;
-    let new = e.size + beyond(past, e.size);
-    let m = least(new - s, b - off);
-    let put = front(image, health, b, k, off, s, m, pos, data);
-    match put {
-        Programmed::Stored => tail(image, health, b, n, e, k, off, s, m, past),
-        Programmed::Refused => Filled::Spoiled,
+    let new = e.size.max(past);
+    let m = (new - s).min(b - off);
+    match front(image, health, b, k, off, s, m, pos, data) {
+        Ok(()) => tail(image, health, b, n, e, k, off, s, m, past),
+        Err(Spoiled) => Filled::Spoiled,
     }
 }

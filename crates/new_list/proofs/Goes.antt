@@ -1,7 +1,7 @@
 -- The loop of a write: what is left to do equals the whole, and each growth lowers the checkpoint count. Assumes nothing.
 use mathlib.Core.Path.{◌≡◌, refl, sym, ap, ◌∙◌}
 use mathlib.Core.List.{List}
-use Prim.Native.Nat.{ℕ, suc, ◌+◌, ◌-◌, ◌≤◌, ◌<◌}
+use Prim.Native.Nat.{ℕ, suc, ◌+◌, ◌-◌, max, ◌≤◌, ◌<◌}
 use native.Mathlib.Omega.{arith}
 use lib.ListN.{length}
 use Rattle.layout.specs.Numbers.{size_max}
@@ -50,10 +50,10 @@ module _ {B N l : ℕ} {health : List ℕ} {t : Table} {e : Entry} {pos : ℕ} {
   new_fits = omega (arith, x.most, x.fits)
 
   -- the new size, as the code has it
-  pub loop_new : {y s : ℕ} → y ≡ pos + length src - e.size → s < e.size + y → s < new (job_of e pos src)
+  pub loop_new : {y s : ℕ} → y ≡ max e.size (pos + length src) → s < y → s < new (job_of e pos src)
   loop_new f d = omega arith
 
-  pub loop_end : {y s : ℕ} → y ≡ pos + length src - e.size → e.size + y ≤ s → new (job_of e pos src) ≤ s
+  pub loop_end : {y s : ℕ} → y ≡ max e.size (pos + length src) → y ≤ s → new (job_of e pos src) ≤ s
   loop_end f d = omega arith
 
   module _ {h₀ s₀ : ℕ} {w : Lookahead} {h s : ℕ} {img : List ℕ} (r : Rest B N l health t e pos src w₀ h₀ s₀ img₀ w h s img) where

@@ -6,7 +6,6 @@ ghost use Rattle.new_list.specs.inner.Put.{ended_of, on_from, WroteGives, Puttin
 
 use files::{Entry, Table};
 use grow::Growth;
-use new_block::numbers::{beyond, least};
 use new_block::{Filled, fill_block};
 use old_list::{Looked, first_head, tail_looked};
 use window::Lookahead;
@@ -58,7 +57,7 @@ fn write_on(
         result image.new }
 {
     let over = pos + data.len() as u32;
-    let new = e.size + beyond(over, e.size);
+    let new = e.size.max(over);
     let mut window = w;
     let mut h = head;
     let mut s = size;
@@ -113,7 +112,7 @@ pub fn put(
         result image.new }
 {
     let v = window::alloc_ckpoint(w, n);
-    let q = least(pos, e.size);
+    let q = pos.min(e.size);
     let first = first_head(b, n, &image[..], e, q);
     match first {
         Looked::Block(head) => {

@@ -2,20 +2,20 @@
 use Rattle.new_block.proofs.Fills.{front_asks, tail_asked, fill_spoiled, fill_on}
 use Rattle.new_block.proofs.fill_block.Goals as goal
 
-pub front-put-requires : goal.front-put-requires
-front-put-requires c =
-    front_asks c.requires c.beyond.ensures c.least-m.ensures
+pub front-requires : goal.front-requires
+front-requires c =
+    front_asks c.requires c.max-new.ensures c.min-m.ensures
 
 pub tail-requires : goal.tail-requires
 tail-requires c =
-    tail_asked c.requires c.beyond.ensures c.least-m.ensures c.front-put.ensures c.in-Stored.is
-    c.front-put.auto.image
+    tail_asked c.requires c.max-new.ensures c.min-m.ensures c.front.ensures c.in-Ok.is
+    c.front.auto.image
 
-pub returns-in-Stored : goal.returns-in-Stored
-returns-in-Stored c =
-    fill_on c.requires c.beyond.ensures c.least-m.ensures c.front-put.ensures c.in-Stored.is
+pub returns-in-Ok : goal.returns-in-Ok
+returns-in-Ok c =
+    fill_on c.requires c.max-new.ensures c.min-m.ensures c.front.ensures c.in-Ok.is
     c.tail.ensures
 
-pub returns-in-Refused : goal.returns-in-Refused
-returns-in-Refused c =
-    fill_spoiled c.requires c.beyond.ensures c.least-m.ensures c.front-put.ensures c.in-Refused.is
+pub returns-in-Err : goal.returns-in-Err
+returns-in-Err c =
+    fill_spoiled c.requires c.max-new.ensures c.min-m.ensures c.front.ensures c.in-Err.is

@@ -3,9 +3,8 @@ use Rattle.std.specs.Prelude.{◌≡◌, true, false, List, ℕ, ◌+◌, ◌-�
 use Rattle.layout.specs.Numbers.{size_max}
 use Rattle.card.specs.inner.Cards.{CardFacts}
 use Rattle.health.specs.Health.{refuses_program}
-use Rattle.device.specs.declared.Programmed.TheVariants.{Stored, Refused}
 use Rattle.device.specs.Device.{stored}
-use Rattle.device.specs.inner.Steps.{ProgramOut}
+use Rattle.device.specs.inner.Steps.{StepOut, step_of}
 use Rattle.device.specs.inner.Bounds.{Blank, spot}
 use Rattle.files.specs.declared.Entry.{Entry}
 use Rattle.grow.specs.inner.Grow.{part}
@@ -23,12 +22,8 @@ unfoldable pub tailed : ℕ → ℕ → ℕ → ℕ → ℕ → ℕ → ℕ → 
 tailed B k off s n ob e img = stored B img (spot k (off + (e - s))) (part B ob (off + (e - s)) (n - (e - s)) img)
 
 -- gap and data go into block k, or it refuses
-unfoldable pub front_of : List ℕ → ℕ → ℕ → ℕ → ℕ → ℕ → ℕ → List ℕ → List ℕ → ProgramOut
-front_of health B k off s n pos src img =
-    elim (refuses_program health k) [
-      | true ↦ record { answer = Refused; image = img }
-      | false ↦ record { answer = Stored; image = fronted B k off s n pos src img }
-    ]
+abbrev pub front_of : List ℕ → ℕ → ℕ → ℕ → ℕ → ℕ → ℕ → List ℕ → List ℕ → StepOut
+front_of health B k off s n pos src img = step_of (refuses_program health k) img (fronted B k off s n pos src img)
 
 -- what filling a block leaves
 pub record FillOut : Type 0 where

@@ -6,7 +6,7 @@ use Rattle.new_list.proofs.put.Goals as goal
 
 pub first_head-first-requires : goal.first_head-first-requires
 first_head-first-requires c =
-    (putting_look c.requires, omega (arith, c.least-q.ensures))
+    (putting_look c.requires, omega (arith, c.min-q.ensures))
 
 pub tail_looked-requires : goal.tail_looked-requires
 tail_looked-requires c =
@@ -18,15 +18,15 @@ write_on-requires c =
 
 pub returns-then-tail_looked : goal.returns-then-tail_looked
 returns-then-tail_looked c =
-    put_goes c.requires c.alloc_ckpoint-v.ensures c.least-q.ensures c.first_head-first.ensures
+    put_goes c.requires c.alloc_ckpoint-v.ensures c.min-q.ensures c.first_head-first.ensures
     c.in-Block.is c.tail_looked.ensures c.if-tail_looked.true c.write_on.ensures
 
 pub returns-else-tail_looked : goal.returns-else-tail_looked
 returns-else-tail_looked c =
-    wrote_as c.ended.ensures (put_tailless c.requires c.alloc_ckpoint-v.ensures c.least-q.ensures
+    wrote_as c.ended.ensures (put_tailless c.requires c.alloc_ckpoint-v.ensures c.min-q.ensures
     c.first_head-first.ensures c.in-Block.is c.tail_looked.ensures c.if-tail_looked.false)
 
 pub returns-in-Lost : goal.returns-in-Lost
 returns-in-Lost c =
-    wrote_as c.ended-in-Lost.ensures (put_lost c.requires c.alloc_ckpoint-v.ensures c.least-q.ensures
+    wrote_as c.ended-in-Lost.ensures (put_lost c.requires c.alloc_ckpoint-v.ensures c.min-q.ensures
     c.first_head-first.ensures c.in-Lost.is)
