@@ -4,8 +4,9 @@ use mathlib.Core.Logic.{◌⊎◌, inl, inr}
 use Prim.Native.Nat.{ℕ}
 use lib.IntN.{pos, negsuc}
 use Rattle.files.specs.declared.Table.{Table}
-use Rattle.files.specs.declared.change.Change.{Change}
-use Rattle.files.specs.declared.change.Change.TheVariants as change
+use Rattle.std.specs.Prelude.{Result, Ok, Err}
+use Rattle.layout.specs.declared.Refusal.{Refusal}
+use Rattle.layout.specs.declared.Refusal.TheVariants as refusal
 use Rattle.files.specs.Change.{changed}
 use Rattle.files.proofs.Kept.{create_cases, remove_cases}
 use Rattle.grow.specs.Setting.{Setting, State}
@@ -25,12 +26,15 @@ module _ (s : State) where
   t = s.table
 
   -- a create or remove that is not accepted hands the table back
-  refused_any : (a : Change) → (a ≡ change.Done → ⊥) → AnyEnd s (changed_in s (changed a t))
-  refused_any change.Done n = absurd (n refl)
-  refused_any change.Missing n = unchanged 1 refl refl
-  refused_any change.Exists n = unchanged 16 refl refl
-  refused_any change.Full n = unchanged 11 refl refl
-  refused_any change.Refused n = unchanged 21 refl refl
+  refused_any : (a : Result (Unit {0}) Refusal) → (a ≡ Ok tt → ⊥) → AnyEnd s (changed_in s (changed a t))
+  refused_any (Ok u) n = absurd (n refl)
+  refused_any (Err refusal.Missing) n = unchanged 1 refl refl
+  refused_any (Err refusal.TableFull) n = unchanged 11 refl refl
+  refused_any (Err refusal.Exists) n = unchanged 16 refl refl
+  refused_any (Err refusal.Invalid) n = unchanged 21 refl refl
+  refused_any (Err refusal.TooLarge) n = unchanged 26 refl refl
+  refused_any (Err refusal.NoSpace) n = unchanged 27 refl refl
+  refused_any (Err refusal.Damaged) n = unchanged 83 refl refl
 
   stored_any : {o : StoreOut} → refusals.Ends s.window t s.image o → AnyEnd s (stored_in o)
   stored_any (refusals.kept outcome.Done) = done refl

@@ -14,7 +14,7 @@ use Rattle.card.specs.inner.Cards.{CardFacts, card_with}
 use Rattle.card.proofs.Cards.{card}
 use Rattle.files.specs.declared.Entry.{Entry}
 use Rattle.files.specs.declared.Table.{Table}
-use Rattle.files.specs.declared.Found.TheVariants as found
+use Rattle.std.specs.Prelude.{Ok}
 use Rattle.files.specs.Table.{held, file, find_of}
 use Rattle.window.specs.declared.Lookahead.{Lookahead}
 use Rattle.window.specs.Value.{fresh_of, checkpoint_of}
@@ -173,7 +173,7 @@ module _ (g : Setting) (s : State) (passed : tested g s ≡ true) where
     count = same_used (good_block health) (used_in g s) (has (listed_blocks g s)) N (λ b _. none_left N (listed_blocks g s) s.window h b);
   }
 
-  module _ (number i : ℕ) (here : find_of s.table number ≡ found.At i) where
+  module _ (number i : ℕ) (here : find_of s.table number ≡ Ok i) where
     most : (file s.table i).size ≤ size_max
     most = file_most B N l s.image health s.window s.table number i passed here
 
@@ -203,7 +203,7 @@ module _ (g : Setting) (s : State) (passed : tested g s ≡ true) where
         by Corrupt e z = absurd (fine e)
 
   -- -28 EXACTLY. A write of at least one byte, whatever the lists are.
-  pub any_write : {free : ℕ} → Free g s free → (w : WriteAsked) (i : ℕ) → find_of s.table w.number ≡ found.At i → 0 < length w.bytes
+  pub any_write : {free : ℕ} → Free g s free → (w : WriteAsked) (i : ℕ) → find_of s.table w.number ≡ Ok i → 0 < length w.bytes
       → w.position + length w.bytes ≤ size_max → ((after g (write w) s).code ≡ damaged_card → ⊥)
       → Settled g (record { needed = blocks_for g.B (file s.table i) w; free = free }) s (after g (write w) s)
   unfolding after
@@ -215,7 +215,7 @@ module _ (g : Setting) (s : State) (passed : tested g s ≡ true) where
       (decided B N l health s a_valid a_size a_card f.apart (file s.table i) p src some fits (most w.number i here)) f.count)
 
   -- A growing truncate.
-  pub any_truncate : {free : ℕ} → Free g s free → (t : TruncateAsked) (i : ℕ) → find_of s.table t.number ≡ found.At i
+  pub any_truncate : {free : ℕ} → Free g s free → (t : TruncateAsked) (i : ℕ) → find_of s.table t.number ≡ Ok i
       → (file s.table i).size < t.size → t.size ≤ size_max → ((after g (truncate t) s).code ≡ damaged_card → ⊥)
       → Settled g (record { needed = blocks_for g.B (file s.table i) (grown_by (file s.table i) t); free = free }) s (after g (truncate t) s)
   unfolding after
@@ -238,12 +238,12 @@ module _ (g : Setting) (start : ℕ) (t : Table) (image : List ℕ) where
     fresh_free : Free g freshly (good_free g freshly)
     fresh_free = none_left_free g freshly passed (omega arith)
 
-    pub write_exactly : (w : WriteAsked) (i : ℕ) → find_of t w.number ≡ found.At i → 0 < length w.bytes → w.position + length w.bytes ≤ size_max
+    pub write_exactly : (w : WriteAsked) (i : ℕ) → find_of t w.number ≡ Ok i → 0 < length w.bytes → w.position + length w.bytes ≤ size_max
         → ((after g (write w) freshly).code ≡ damaged_card → ⊥)
         → Exactly (record { needed = blocks_for g.B (file t i) w; free = good_free g freshly }) (after g (write w) freshly).code
     write_exactly w i here some fits n = (any_write g freshly passed fresh_free w i here some fits n).exactly
 
-    pub truncate_exactly : (a : TruncateAsked) (i : ℕ) → find_of t a.number ≡ found.At i → (file t i).size < a.size → a.size ≤ size_max
+    pub truncate_exactly : (a : TruncateAsked) (i : ℕ) → find_of t a.number ≡ Ok i → (file t i).size < a.size → a.size ≤ size_max
         → ((after g (truncate a) freshly).code ≡ damaged_card → ⊥)
         → Exactly (record { needed = blocks_for g.B (file t i) (grown_by (file t i) a); free = good_free g freshly }) (after g (truncate a) freshly).code
     truncate_exactly a i here more fits n = (any_truncate g freshly passed fresh_free a i here more fits n).exactly
@@ -251,18 +251,18 @@ module _ (g : Setting) (start : ℕ) (t : Table) (image : List ℕ) where
 -- ---- after -28
 
 module _ (g : Setting) (s : State) (o : Left) (sp : Spent g s o) where
-  there : (number i : ℕ) → find_of s.table number ≡ found.At i → find_of o.state.table number ≡ found.At i
+  there : (number i : ℕ) → find_of s.table number ≡ Ok i → find_of o.state.table number ≡ Ok i
   there number i here = ap (λ (t : Table). find_of t number) sp.table ∙ here
 
   -- From what -28 left, the same write or another, of that file: nothing is left of the window.
-  pub write_again : (w : WriteAsked) (i : ℕ) → find_of s.table w.number ≡ found.At i → 0 < length w.bytes → w.position + length w.bytes ≤ size_max
+  pub write_again : (w : WriteAsked) (i : ℕ) → find_of s.table w.number ≡ Ok i → 0 < length w.bytes → w.position + length w.bytes ≤ size_max
       → ((after g (write w) o.state).code ≡ damaged_card → ⊥)
       → Settled g (record { needed = blocks_for g.B (file s.table i) w; free = good_free g o.state }) o.state (after g (write w) o.state)
   write_again w i here some fits n =
       subst (λ (t : Table). Settled g (record { needed = blocks_for g.B (file t i) w; free = good_free g o.state }) o.state (after g (write w) o.state)) sp.table
       (any_write g o.state sp.tested (none_left_free g o.state sp.tested sp.none_left) w i (there w.number i here) some fits n)
 
-  pub truncate_again : (a : TruncateAsked) (i : ℕ) → find_of s.table a.number ≡ found.At i → (file s.table i).size < a.size → a.size ≤ size_max
+  pub truncate_again : (a : TruncateAsked) (i : ℕ) → find_of s.table a.number ≡ Ok i → (file s.table i).size < a.size → a.size ≤ size_max
       → ((after g (truncate a) o.state).code ≡ damaged_card → ⊥)
       → Settled g (record { needed = blocks_for g.B (file s.table i) (grown_by (file s.table i) a); free = good_free g o.state }) o.state
       (after g (truncate a) o.state)

@@ -15,9 +15,9 @@ use Rattle.plain.specs.Bytes.{bytes}
 use Rattle.plain.specs.inner.Forms.{GoodList}
 use Rattle.plain.proofs.Files.{bytes_length}
 use Rattle.files.specs.declared.Table.{Table}
-use Rattle.files.specs.declared.Found.{Found}
-use Rattle.files.specs.declared.Found.TheVariants as found
-use Rattle.files.specs.declared.Sized.TheVariants as sized
+use Rattle.std.specs.Prelude.{Result, Ok}
+use Rattle.layout.specs.declared.Refusal.{Refusal}
+use Rattle.layout.specs.declared.Refusal.TheVariants.{Missing, Invalid}
 use Rattle.files.specs.Table.{held, file, find_of, size_of}
 use Rattle.files.specs.Seek.{whence_of, seek_of, Seek}
 use Rattle.files.proofs.Cases as cases
@@ -74,12 +74,12 @@ module _ {g : Shape} {s : State} (sounds : Sounds g s) where
   pub size_plain : (number : ℕ) → size_of s.table number ≡ plain_size number (files_in g.B s)
   size_plain number = go (find_view t number sounds.table) refl
     where
-      go : {r : Found} → FindView t number r → find_of t number ≡ r → size_of t number ≡ plain_size number fs
-      go (high k) q = rw (plain_size, meets_high number 0 fs k) (sym (cases.size_refused t number (find_of t number) refl q))
-      go (missing a u) q = rw (plain_size, meets_none number 0 fs a (none_here number u)) (sym (cases.size_missing t number (find_of t number) refl q))
+      go : {r : Result ℕ Refusal} → FindView t number r → find_of t number ≡ r → size_of t number ≡ plain_size number fs
+      go (high k) q = rw (plain_size, meets_high number 0 fs k) (sym (cases.size_refused t number (find_of t number) refl Invalid q))
+      go (missing a u) q = rw (plain_size, meets_none number 0 fs a (none_here number u)) (sym (cases.size_refused t number (find_of t number) refl Missing q))
       go (at i a b pl) q =
           rw (plain_size, meets_file_lem number 0 fs a (here number i pl) (omega arith))
-          (sym (cases.size_at t number (find_of t number) refl i q) ∙ ap sized.Bytes (sym (length_here number i pl)))
+          (sym (cases.size_at t number (find_of t number) refl i q) ∙ ap Ok (sym (length_here number i pl)))
 
   -- ---- seek
 
@@ -93,13 +93,13 @@ module _ {g : Shape} {s : State} (sounds : Sounds g s) where
       position : ℕ
       position = k.position
 
-      go : {r : Found} → FindView t k.number r → find_of t k.number ≡ r
+      go : {r : Result ℕ Refusal} → FindView t k.number r → find_of t k.number ≡ r
           → seek_of t (record { number = k.number; position = k.position; offset = k.offset; whence = k.whence }) ≡ plain_seek k fs
       go (high h) q =
-          rw (plain_seek, meets_high number position fs h) (sym (cases.seek_refused t number (find_of t number) refl position k.offset k.whence q))
+          rw (plain_seek, meets_high number position fs h) (sym (cases.seek_refused t number (find_of t number) refl position k.offset k.whence Invalid q))
       go (missing a u) q =
           rw (plain_seek, meets_none number position fs a (none_here number u))
-          (sym (cases.seek_missing t number (find_of t number) refl position k.offset k.whence q))
+          (sym (cases.seek_refused t number (find_of t number) refl position k.offset k.whence Missing q))
       go (at i a b pl) q =
           leb_cases position size_max (λ b. seek_of t (record { number = number; position = position; offset = k.offset; whence = k.whence }) ≡ plain_seek k fs)
           (λ n. rw (plain_seek, meets_file_lem number position fs a (here number i pl) n) (cases.seek_at t number (find_of t number) refl position k.offset k.whence i q n
@@ -114,7 +114,7 @@ module _ {g : Shape} {s : State} (sounds : Sounds g s) where
     unfolding read_of asked_of
     read_there buffer = go (find_view t number sounds.table) refl
       where
-        go : {r : Found} → FindView t number r → find_of t number ≡ r → read_of (card_with B N s.image) t (file_position number p) buffer ≡ plain_read (file_position number p) buffer fs
+        go : {r : Result ℕ Refusal} → FindView t number r → find_of t number ≡ r → read_of (card_with B N s.image) t (file_position number p) buffer ≡ plain_read (file_position number p) buffer fs
         go (high k) q = rw (plain_read, meets_high number p fs k) (rw (read_of, asked_of, sounds.card, q))
         go (missing a u) q = rw (plain_read, meets_none number p fs a (none_here number u)) (rw (read_of, asked_of, sounds.card, q))
         go (at i a b pl) q =
@@ -131,7 +131,7 @@ module _ {g : Shape} {s : State} (sounds : Sounds g s) where
     abbrev code : Type 0
     code = placed_code (stretch_of (card_with B N s.image) t (file_position number p)) ≡ stretch_code (file_position number p) fs
 
-    stretch_at : (i : ℕ) → Placed number (file t i) i (held t) → find_of t number ≡ found.At i → p ≤ size_max
+    stretch_at : (i : ℕ) → Placed number (file t i) i (held t) → find_of t number ≡ Ok i → p ≤ size_max
         → (stretch_bytes s.image (stretch_of (card_with B N s.image) t (file_position number p)) ≡ stretch_from B (file_bytes number fs) p)
         × (placed_code (stretch_of (card_with B N s.image) t (file_position number p)) ≡ accepted)
     stretch_at i pl q n =
@@ -152,7 +152,7 @@ module _ {g : Shape} {s : State} (sounds : Sounds g s) where
     unfolding stretch_of asked_of
     stretch_there = go (find_view t number sounds.table) refl
       where
-        go : {r : Found} → FindView t number r → find_of t number ≡ r → part × code
+        go : {r : Result ℕ Refusal} → FindView t number r → find_of t number ≡ r → part × code
         go (high k) q =
             rw (plain_stretch, meets_high number p fs k) (rw (stretch_of, asked_of, sounds.card, q), rw (stretch_of, asked_of, sounds.card, q))
         go (missing a u) q =

@@ -11,8 +11,9 @@ use Rattle.layout.specs.Numbers.{size_max}
 use Rattle.layout.specs.inner.Served.{block_list}
 use Rattle.plain.specs.Bytes.{bytes}
 use Rattle.files.specs.declared.Table.{Table}
-use Rattle.files.specs.declared.Found.{Found}
-use Rattle.files.specs.declared.Found.TheVariants as found
+use Rattle.std.specs.Prelude.{Result, Ok}
+use Rattle.layout.specs.declared.Refusal.{Refusal}
+use Rattle.layout.specs.declared.Refusal.TheVariants.{Invalid}
 use Rattle.files.specs.Table.{held, file, find_of}
 use Rattle.files.proofs.Tests.{ltb_cases, eqb_cases}
 use Rattle.window.specs.declared.Lookahead.{Lookahead}
@@ -88,7 +89,7 @@ module _ {B N l : ℕ} {s : State} (h : Held B N l s) (health : List ℕ) (numbe
     pub write_step : Wrote tested call
     write_step = go tested refl
       where
-        found_one : (i : ℕ) → number ≤ 65535 → i < t.count → Placed number (file t i) i (held t) → tested ≡ true → find_of t number ≡ found.At i
+        found_one : (i : ℕ) → number ≤ 65535 → i < t.count → Placed number (file t i) i (held t) → tested ≡ true → find_of t number ≡ Ok i
             → Wrote true call
         found_one i a b pl te q =
             let hf = contents.placed_holds B img pl in
@@ -105,9 +106,9 @@ module _ {B N l : ℕ} {s : State} (h : Held B N l s) (health : List ℕ) (numbe
             (ends_same c₂ (sym (contents.change_none number (plain_write (ask_write number p src)) (λ bs. wrote_none number p src bs z) fs)) h))
             (λ z. wrote_by (calls.write_some B N l img health w t number p src te i q near fits z) (write_some i b pl te fits z c₂))))
 
-        found_by : {r : Found} → FindView t number r → find_of t number ≡ r → tested ≡ true → Wrote true call
+        found_by : {r : Result ℕ Refusal} → FindView t number r → find_of t number ≡ r → tested ≡ true → Wrote true call
         found_by (high k) q te =
-            wrote_by (calls.write_no_table B N l img health w t number p src te q) (refused 21 (omega arith) refl (rw (meets_high number p fs k)) refl)
+            wrote_by (calls.write_no_table B N l img health w t number p src te Invalid (λ z. let y : ◌≡◌ {A = ℕ} 0 1 = cc in omega arith) q) (refused 21 (omega arith) refl (rw (meets_high number p fs k)) refl)
         found_by (missing a u) q te =
             wrote_by (calls.write_missing B N l img health w t number p src te q)
             (refused 1 (omega arith) refl (rw (meets_none number p fs a (contents.unnamed_holds B img u))) refl)

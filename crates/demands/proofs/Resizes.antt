@@ -21,8 +21,9 @@ use Rattle.plain.proofs.Files.{bytes_length}
 use Rattle.plain.proofs.Finding.{walk_sound, lookup_sound}
 use Rattle.files.specs.declared.Entry.{Entry}
 use Rattle.files.specs.declared.Table.{Table}
-use Rattle.files.specs.declared.Found.{Found}
-use Rattle.files.specs.declared.Found.TheVariants as found
+use Rattle.std.specs.Prelude.{Result, Ok}
+use Rattle.layout.specs.declared.Refusal.{Refusal}
+use Rattle.layout.specs.declared.Refusal.TheVariants.{Invalid}
 use Rattle.files.specs.Table.{held, file, find_of}
 use Rattle.files.proofs.Tests.{ltb_cases, eqb_cases}
 use Rattle.window.specs.declared.Lookahead.{Lookahead}
@@ -83,7 +84,7 @@ module _ {B N l : ℕ} {s : State} (h : Held B N l s) (health : List ℕ) (numbe
   resized_by : {b : Bool} {o : StoreOut} → call ≡ o → Resized b o → Resized b call
   resized_by {b} q e = subst (λ (o : StoreOut). Resized b o) (sym q) e
 
-  module _ (i : ℕ) (b : i < t.count) (pl : Placed number (file t i) i (held t)) (te : tested ≡ true) (q : find_of t number ≡ found.At i)
+  module _ (i : ℕ) (b : i < t.count) (pl : Placed number (file t i) i (held t)) (te : tested ≡ true) (q : find_of t number ≡ Ok i)
       (near : size ≤ size_max) (code : plain_code true (truncate (ask_truncate number size)) fs ≡ pos 0) where
     abbrev e : Entry
     e = file t i
@@ -167,7 +168,7 @@ module _ {B N l : ℕ} {s : State} (h : Held B N l s) (health : List ℕ) (numbe
   pub truncate_step : Resized tested call
   truncate_step = go tested refl
     where
-      found_one : (i : ℕ) → number ≤ 65535 → i < t.count → Placed number (file t i) i (held t) → tested ≡ true → find_of t number ≡ found.At i → Resized true call
+      found_one : (i : ℕ) → number ≤ 65535 → i < t.count → Placed number (file t i) i (held t) → tested ≡ true → find_of t number ≡ Ok i → Resized true call
       found_one i a b pl te q =
           let hf = contents.placed_holds B img pl in
           ltb_cases size_max size (λ z. Resized true call)
@@ -175,9 +176,9 @@ module _ {B N l : ℕ} {s : State} (h : Held B N l s) (health : List ℕ) (numbe
           (refused 21 (omega arith) refl (rw (meets_far number size fs a hf far)) refl))
           (λ near. all_sizes i b pl te q near (rw (meets_file_lem number size fs a hf near)))
 
-      found_by : {r : Found} → FindView t number r → find_of t number ≡ r → tested ≡ true → Resized true call
+      found_by : {r : Result ℕ Refusal} → FindView t number r → find_of t number ≡ r → tested ≡ true → Resized true call
       found_by (high k) q te =
-          resized_by (calls.truncate_no_table B N l img health w t number size te q) (refused 21 (omega arith) refl (rw (meets_high number size fs k)) refl)
+          resized_by (calls.truncate_no_table B N l img health w t number size te Invalid (λ z. let y : ◌≡◌ {A = ℕ} 0 1 = cc in omega arith) q) (refused 21 (omega arith) refl (rw (meets_high number size fs k)) refl)
       found_by (missing a u) q te =
           resized_by (calls.truncate_missing B N l img health w t number size te q)
           (refused 1 (omega arith) refl (rw (meets_none number size fs a (contents.unnamed_holds B img u))) refl)

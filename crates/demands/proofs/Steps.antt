@@ -12,8 +12,9 @@ use Rattle.layout.specs.inner.Served.{block_list}
 use Rattle.plain.specs.Bytes.{bytes, span}
 use Rattle.files.specs.declared.Entry.{Entry}
 use Rattle.files.specs.declared.Table.{Table}
-use Rattle.files.specs.declared.Found.{Found}
-use Rattle.files.specs.declared.Found.TheVariants as found
+use Rattle.std.specs.Prelude.{Result, Err}
+use Rattle.layout.specs.declared.Refusal.{Refusal}
+use Rattle.layout.specs.declared.Refusal.TheVariants.{Missing, Invalid}
 use Rattle.files.specs.declared.change.Changed.{Changed}
 use Rattle.files.specs.Table.{held, table_of, table_ok, find_of}
 use Rattle.files.specs.Change.{create_of, remove_of, insert_of, without_of}
@@ -74,7 +75,7 @@ module _ {B N l : ℕ} {s : State} (h : Held B N l s) (number : ℕ) where
           → Ends B N l fits (create number) s (changed_in s (create_of t number))
       by q e = subst (λ (c : Changed). Ends B N l fits (create number) s (changed_in s c)) q e
 
-      new : find_of t number ≡ found.Missing → number ≤ 65535 → Unnamed number (held t) → t.count < files_max
+      new : find_of t number ≡ Err Missing → number ≤ 65535 → Unnamed number (held t) → t.count < files_max
           → Ends B N l fits (create number) s (changed_in s (create_of t number))
       new q a u c =
           by (sym (cases.create_accepted t number (find_of t number) refl q c)) (accepted refl
@@ -88,15 +89,15 @@ module _ {B N l : ℕ} {s : State} (h : Held B N l s) (number : ℕ) where
           (again (table_of more) s.window s.image (ap (λ (x : Changed). table_ok x.table) (sym (cases.create_accepted t number (find_of t number) refl q c)) ∙ create_ok t number ok)
           (rw (held_of more) (create_keeps B N l s.window s.image (held t) (before h) number))))
 
-      full : find_of t number ≡ found.Missing → number ≤ 65535 → Unnamed number (held t) → files_max ≤ t.count
+      full : find_of t number ≡ Err Missing → number ≤ 65535 → Unnamed number (held t) → files_max ≤ t.count
           → Ends B N l fits (create number) s (changed_in s (create_of t number))
       full q a u c =
           by (cases.create_full t number (find_of t number) refl q c) (refused 11 (omega arith) refl
           (rw (plain_code, meets_none number 0 fs a (contents.unnamed_holds B s.image u), le-leb files_max (length fs) (omega (arith, files_count)))) refl)
 
-      go : {r : Found} → FindView t number r → find_of t number ≡ r → Ends B N l fits (create number) s (changed_in s (create_of t number))
+      go : {r : Result ℕ Refusal} → FindView t number r → find_of t number ≡ r → Ends B N l fits (create number) s (changed_in s (create_of t number))
       go (high k) q =
-          by (cases.create_refused t number (find_of t number) refl q) (refused 21 (omega arith) refl (rw (plain_code, meets_high number 0 fs k)) refl)
+          by (cases.create_refused t number (find_of t number) refl Invalid (λ z. let y : ◌≡◌ {A = ℕ} 0 1 = cc in omega arith) q) (refused 21 (omega arith) refl (rw (plain_code, meets_high number 0 fs k)) refl)
       go (at i a b p) q =
           by (cases.create_exists t number (find_of t number) refl i q)
           (refused 16 (omega arith) refl (rw (plain_code, meets_file_lem number 0 fs a (contents.placed_holds B s.image p) (omega arith))) refl)
@@ -115,11 +116,11 @@ module _ {B N l : ℕ} {s : State} (h : Held B N l s) (number : ℕ) where
           → Ends B N l fits (remove number) s (changed_in s (remove_of t number))
       by q e = subst (λ (c : Changed). Ends B N l fits (remove number) s (changed_in s c)) q e
 
-      go : {r : Found} → FindView t number r → find_of t number ≡ r → Ends B N l fits (remove number) s (changed_in s (remove_of t number))
+      go : {r : Result ℕ Refusal} → FindView t number r → find_of t number ≡ r → Ends B N l fits (remove number) s (changed_in s (remove_of t number))
       go (high k) q =
-          by (cases.remove_refused t number (find_of t number) refl q) (refused 21 (omega arith) refl (rw (meets_high number 0 fs k)) refl)
+          by (cases.remove_refused t number (find_of t number) refl Invalid q) (refused 21 (omega arith) refl (rw (meets_high number 0 fs k)) refl)
       go (missing a u) q =
-          by (cases.remove_missing t number (find_of t number) refl q)
+          by (cases.remove_refused t number (find_of t number) refl Missing q)
           (refused 1 (omega arith) refl (rw (meets_none number 0 fs a (contents.unnamed_holds B s.image u))) refl)
       go (at i a b p) q =
           by (sym (cases.remove_accepted t number (find_of t number) refl i q)) (accepted refl (rw (meets_file_lem number 0 fs a (contents.placed_holds B s.image p) (omega arith)))

@@ -1,27 +1,25 @@
 -- What size, seek, read and stretch answer on plain files (01, "Store calls").
-use Rattle.std.specs.Prelude.{List, [], ℕ, ◌-◌, min, ℤ, length, take, drop}
+use Rattle.std.specs.Prelude.{Result, Ok, Err, List, [], ℕ, ◌-◌, min, ℤ, length, take, drop}
 use Rattle.std.proofs.lemmas.List.Edits.{sets}
+use Rattle.layout.specs.declared.Refusal.{Refusal}
+use Rattle.layout.specs.declared.Refusal.TheVariants.{Missing, Invalid}
 use Rattle.layout.specs.Layout.{offset_at}
 use Rattle.layout.specs.Numbers.{accepted}
-use Rattle.files.specs.declared.Sized.{Sized}
-use Rattle.files.specs.declared.Sized.TheVariants as sized
-use Rattle.files.specs.declared.position.Sought.{Sought}
-use Rattle.files.specs.declared.position.Sought.TheVariants as sought
 use Rattle.files.specs.Seek.{Seek, whence_of}
 use Rattle.reading.specs.declared.Reading.TheVariants as reading
 use Rattle.reading.specs.Calls.{FilePosition, ReadOut}
 use Rattle.demands.specs.Plain.{PlainFile, file_bytes, meets, meets_file, refused, missing, met, code_if}
 
-abbrev pub plain_size : ℕ → List PlainFile → Sized
+abbrev pub plain_size : ℕ → List PlainFile → Result ℕ Refusal
 plain_size number fs =
-    elim (meets_file number fs) [ refused ↦ sized.Refused | missing ↦ sized.Missing | met ↦ sized.Bytes (length (file_bytes number fs)) ]
+    elim (meets_file number fs) [ refused ↦ Err Invalid | missing ↦ Err Missing | met ↦ Ok (length (file_bytes number fs)) ]
 
 -- the signed offset is added to 0, the position or the length, as whole numbers
-abbrev pub plain_seek : Seek → List PlainFile → Sought
+abbrev pub plain_seek : Seek → List PlainFile → Result ℕ Refusal
 plain_seek k fs =
     elim (meets (record { number = k.number; position = k.position }) fs) [
-      | refused ↦ sought.Refused
-      | missing ↦ sought.Missing
+      | refused ↦ Err Invalid
+      | missing ↦ Err Missing
       | met ↦ whence_of k (length (file_bytes k.number fs))
     ]
 

@@ -12,7 +12,8 @@ use mir.Val.{SFits, to_z, of_z}
 use mir.Facts.{to_z-of_z}
 use Rattle.layout.specs.Numbers.{null_block}
 use Rattle.files.specs.declared.Table.{Table}
-use Rattle.files.specs.declared.position.Sought.{Sought}
+use Rattle.std.specs.Prelude.{Result}
+use Rattle.layout.specs.declared.Refusal.{Refusal}
 use Rattle.files.specs.Table.{table_of}
 use Rattle.files.specs.Seek.{seek_of}
 use Rattle.told_tables.specs.declared.TidSeek.{TidSeek}
@@ -35,7 +36,7 @@ pub one_file_lem : (t : Table) (size head : ℕ) → t ≡ table_of [] → head 
 one_file_lem t size head e h = rw (e, h)
 
 -- the signed arguments come back from their bits
-pub seek_is : (list : List ℕ) (at size p x y code : ℕ) (offset whence : ℤ) (t : Table) (s : Sought) (a : TidSeek) (r : Bool) → size ≡ word_of list at 4 → p ≡ word_of list at 5 → x ≡ word_of list at 6
+pub seek_is : (list : List ℕ) (at size p x y code : ℕ) (offset whence : ℤ) (t : Table) (s : Result ℕ Refusal) (a : TidSeek) (r : Bool) → size ≡ word_of list at 4 → p ≡ word_of list at 5 → x ≡ word_of list at 6
     → y ≡ word_of list at 7
     → mag offset < 2147483648
     → offset ≡ signed_of x

@@ -99,17 +99,7 @@ pub fn truncate(
         return left(Outcome::Refused, w, t);
     }
     match files::find(t, number) {
-        Ok(i) => truncate_file(
-            g.block_size,
-            g.block_count,
-            l,
-            image,
-            health,
-            w,
-            t,
-            i,
-            size,
-        ),
+        Ok(i) => truncate_file(g.block_size, g.block_count, l, image, health, w, t, i, size),
         Err(Refusal::Missing) => left(Outcome::Missing, w, t),
         Err(_) => left(Outcome::Refused, w, t),
     }

@@ -1,24 +1,20 @@
 -- The answers of the table calls as they are exported: 01's number and values for each case.
-use Rattle.std.specs.Prelude.{Result, Ok, Err, [], ℕ, ℤ}
+use Rattle.std.specs.Prelude.{Result, Ok, Err, [], ℕ}
 use Rattle.layout.specs.declared.Refusal.{Refusal}
 use Rattle.layout.specs.Refusals.{refusal_code}
 use Rattle.layout.specs.Numbers.{accepted}
 use Rattle.files.specs.declared.Table.{Table}
 use Rattle.files.specs.declared.change.Changed.{Changed}
+use Rattle.files.specs.Change.{change_code}
 use Rattle.files.specs.Table.{table_of}
 use Rattle.told_tables.specs.declared.TidTable.{TidTable}
 use Rattle.told_tables.specs.declared.TidSize.{TidSize}
 use Rattle.told_tables.specs.declared.TidSeek.{TidSeek}
 use Rattle.told_tables.specs.declared.TidSave.{TidSave}
 
--- -2 no such file; -12 32 files held; -17 exists; -22 table value, file number
-abbrev pub answer_code : Result (Unit {0}) Refusal → ℤ
-answer_code (Ok a) = accepted
-answer_code (Err r) = refusal_code r
-
 -- on a refusal the table is as it came
 abbrev pub changed_told : Changed → TidTable
-changed_told c = record { code = answer_code c.answer; table = c.table }
+changed_told c = record { code = change_code c.answer; table = c.table }
 
 abbrev pub sized_told : Result ℕ Refusal → TidSize
 sized_told (Ok size) = record { code = accepted; size = size }
