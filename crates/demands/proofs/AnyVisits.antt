@@ -3,18 +3,19 @@ use mathlib.Core.Path.{◌≡◌, refl, sym, ap, ap₂, ◌∙◌, subst}
 use mathlib.Core.Logic.{◌⊎◌, inl, inr}
 use mathlib.Core.Bool.{Bool, true, false, ◌||◌}
 use mathlib.Core.List.{List, [], ◌∷◌, ◌++◌}
-use Prim.Native.Nat.{ℕ, zero, suc, ◌-◌, ◌≤◌, ◌<◌}
+use Prim.Native.Nat.{ℕ, zero, suc, ◌-◌, ◌%◌, ◌≤◌, ◌<◌}
 use native.Mathlib.Omega.{arith}
 use borrow.Author.Tests.{ltb-true, eqb-true, eqb-false}
 use lib.Dec.{ltb, eqb}
 use lib.ListN.{take}
+use Rattle.std.specs.Prelude.{Option, None, Some}
 use Rattle.span.specs.Members.{has}
 use Rattle.layout.specs.Layout.{index_at}
 use Rattle.layout.specs.inner.Served.{BlockSized, block_list}
 use Rattle.card.specs.Card.{pointer}
 use Rattle.card.specs.inner.Cards.{card_with}
 use Rattle.ctz.specs.Visits.{Visited, visit_of}
-use Rattle.ctz.specs.inner.Held.{visit_held, reads_two, next_block, next_after, hand_on}
+use Rattle.ctz.specs.inner.Held.{visit_held, next_block, hold_by, next_held, hand_on}
 use Rattle.ctz.proofs.Visiting.{visit_empty, visit_begins}
 use Rattle.files.specs.declared.Entry.{Entry}
 use Rattle.window.specs.Scan.{Seen, seen_all, listed_of}
@@ -33,51 +34,55 @@ use Rattle.demands.proofs.Windows.{Listed}
 -- ---- one visit
 
 module _ (ptr ptr' : ℕ → ℕ → ℕ) (N : ℕ) where
-  same_block : (k after : ℕ) (held : Bool) → ((x : ℕ) → x ≤ 1 → ptr' k x ≡ ptr k x) → next_block ptr' k held after ≡ next_block ptr k held after
-  same_block k after true a = refl
-  same_block k after false a = a 0 (omega arith)
+  same_block : (k : ℕ) (held : Option ℕ) → ((x : ℕ) → x ≤ 1 → ptr' k x ≡ ptr k x) → next_block ptr' k held ≡ next_block ptr k held
+  same_block k (Some after) a = refl
+  same_block k None a = a 0 (omega arith)
 
-  same_after : (k : ℕ) (two : Bool) → ((x : ℕ) → x ≤ 1 → ptr' k x ≡ ptr k x) → next_after ptr' k two ≡ next_after ptr k two
-  same_after k true a = a 1 (omega arith)
-  same_after k false a = refl
+  same_held : (i k : ℕ) (held : Option ℕ) → ((x : ℕ) → x ≤ 1 → ptr' k x ≡ ptr k x) → next_held ptr' i k held ≡ next_held ptr i k held
+  same_held i k (Some after) a = refl
+  same_held i k None a = go (eqb (i % 2) 1)
+    where
+      go : (odd : Bool) → hold_by ptr' k None odd ≡ hold_by ptr k None odd
+      go true = refl
+      go false = ap (λ (n : ℕ). Some n) (a 1 (omega arith))
 
-  visit_same : (i k : ℕ) (held : Bool) (after : ℕ)
-      → ((b : ℕ) → has (take i (visit_held ptr N i k held after).handed) b ≡ true → (x : ℕ) → x ≤ 1 → ptr' b x ≡ ptr b x)
-      → visit_held ptr' N i k held after ≡ visit_held ptr N i k held after
+  visit_same : (i k : ℕ) (held : Option ℕ)
+      → ((b : ℕ) → has (take i (visit_held ptr N i k held).handed) b ≡ true → (x : ℕ) → x ≤ 1 → ptr' b x ≡ ptr b x)
+      → visit_held ptr' N i k held ≡ visit_held ptr N i k held
   unfolding visit_held
-  visit_same zero k held after a = refl
-  visit_same (suc i) k held after a = go (ltb k N) refl (visit_same i)
+  visit_same zero k held a = refl
+  visit_same (suc i) k held a = go (ltb k N) refl (visit_same i)
     where
       go : (t : Bool) → ltb k N ≡ t
-          → ((k : ℕ) (held : Bool) (after : ℕ)
-          → ((b : ℕ) → has (take i (visit_held ptr N i k held after).handed) b ≡ true → (x : ℕ) → x ≤ 1 → ptr' b x ≡ ptr b x)
-          → visit_held ptr' N i k held after ≡ visit_held ptr N i k held after)
-          → visit_held ptr' N (suc i) k held after ≡ visit_held ptr N (suc i) k held after
+          → ((k : ℕ) (held : Option ℕ)
+          → ((b : ℕ) → has (take i (visit_held ptr N i k held).handed) b ≡ true → (x : ℕ) → x ≤ 1 → ptr' b x ≡ ptr b x)
+          → visit_held ptr' N i k held ≡ visit_held ptr N i k held)
+          → visit_held ptr' N (suc i) k held ≡ visit_held ptr N (suc i) k held
       go false e ih = rw (visit_held, e)
       go true e ih =
-          let r = reads_two (suc i) held in
-          let q : visit_held ptr N (suc i) k held after ≡ hand_on k (visit_held ptr N i (next_block ptr k held after) r (next_after ptr k r)) = rw (visit_held, e) in
-          let q' : visit_held ptr' N (suc i) k held after ≡ hand_on k (visit_held ptr' N i (next_block ptr' k held after) r (next_after ptr' k r)) = rw (visit_held, e) in
-          let a' : (b : ℕ) → has (k ∷ take i (visit_held ptr N i (next_block ptr k held after) r (next_after ptr k r)).handed) b ≡ true → (x : ℕ) → x ≤ 1 → ptr' b x ≡ ptr b x =
+          let r = next_held ptr (suc i) k held in
+          let q : visit_held ptr N (suc i) k held ≡ hand_on k (visit_held ptr N i (next_block ptr k held) r) = rw (visit_held, e) in
+          let q' : visit_held ptr' N (suc i) k held ≡ hand_on k (visit_held ptr' N i (next_block ptr' k held) (next_held ptr' (suc i) k held)) = rw (visit_held, e) in
+          let a' : (b : ℕ) → has (k ∷ take i (visit_held ptr N i (next_block ptr k held) r).handed) b ≡ true → (x : ℕ) → x ≤ 1 → ptr' b x ≡ ptr b x =
           λ b h. a b (subst (λ (v : Visited). has (take (suc i) v.handed) b ≡ true) (sym q) h) in
           let ak = a' k (has_head k _) in
-          q' ∙ ap₂ (λ (y z : ℕ). hand_on k (visit_held ptr' N i y r z)) (same_block k after held ak) (same_after k r ak)
-          ∙ ap (hand_on k) (ih (next_block ptr k held after) r (next_after ptr k r) (λ b h. a' b (has_tail k _ b h))) ∙ sym q
+          q' ∙ ap₂ (λ (y : ℕ) (z : Option ℕ). hand_on k (visit_held ptr' N i y z)) (same_block k held ak) (same_held (suc i) k held ak)
+          ∙ ap (hand_on k) (ih (next_block ptr k held) r (λ b h. a' b (has_tail k _ b h))) ∙ sym q
 
   -- each number is tested against N just before it is handed over
-  visit_below : (i k : ℕ) (held : Bool) (after : ℕ) → Below N (visit_held ptr N i k held after).handed
+  visit_below : (i k : ℕ) (held : Option ℕ) → Below N (visit_held ptr N i k held).handed
   unfolding visit_held
-  visit_below zero k held after = go (ltb k N) refl
+  visit_below zero k held = go (ltb k N) refl
     where
-      go : (t : Bool) → ltb k N ≡ t → Below N (visit_held ptr N zero k held after).handed
+      go : (t : Bool) → ltb k N ≡ t → Below N (visit_held ptr N zero k held).handed
       go false e = rw (visit_held, e) (below_none N)
       go true e = rw (visit_held, e) (below_more N k [] (ltb-true k N e) (below_none N))
-  visit_below (suc i) k held after = go (ltb k N) refl (visit_below i)
+  visit_below (suc i) k held = go (ltb k N) refl (visit_below i)
     where
-      go : (t : Bool) → ltb k N ≡ t → ((k : ℕ) (held : Bool) (after : ℕ) → Below N (visit_held ptr N i k held after).handed) → Below N (visit_held ptr N (suc i) k held after).handed
+      go : (t : Bool) → ltb k N ≡ t → ((k : ℕ) (held : Option ℕ) → Below N (visit_held ptr N i k held).handed) → Below N (visit_held ptr N (suc i) k held).handed
       go false e ih = rw (visit_held, e) (below_none N)
       go true e ih =
-          rw (visit_held, e) (below_more N k _ (ltb-true k N e) (ih (next_block ptr k held after) (reads_two (suc i) held) (next_after ptr k (reads_two (suc i) held))))
+          rw (visit_held, e) (below_more N k _ (ltb-true k N e) (ih (next_block ptr k held) (next_held ptr (suc i) k held)))
 
 -- ---- the visits of a table
 
@@ -97,7 +102,7 @@ module _ (g : Setting) (img : List ℕ) where
       go : (t : Bool) → eqb e.size 0 ≡ t → Below N (visit_of (card_with B N img) (block_list e.head e.size)).handed
       go true q = rw (visit_empty B N img e.head e.size (eqb-true e.size 0 q)) (below_none N)
       go false q =
-          rw (visit_begins B N img e.head e.size (some e q)) (visit_below (pointer B img) (pointer B img) N (index_at B (e.size - 1)) e.head false 0)
+          rw (visit_begins B N img e.head e.size (some e q)) (visit_below (pointer B img) (pointer B img) N (index_at B (e.size - 1)) e.head None)
 
   pub all_below : (es : List Entry) → AllBelow g.N (visits_of (card_with g.B g.N img) es)
   all_below [] = AllBelow.none
@@ -114,9 +119,9 @@ module _ (g : Setting) (img : List ℕ) where
             let z = eqb-true e.size 0 q in
             visit_empty B N img' e.head e.size z ∙ sym (visit_empty B N img e.head e.size z)
         go false q =
-            let z : visit_of (card_with B N img) (block_list e.head e.size) ≡ visit_held (pointer B img) N (index_at B (e.size - 1)) e.head false 0 = visit_begins B N img e.head e.size (some e q) in
-            let z' : visit_of (card_with B N img') (block_list e.head e.size) ≡ visit_held (pointer B img') N (index_at B (e.size - 1)) e.head false 0 = visit_begins B N img' e.head e.size (some e q) in
-            z' ∙ visit_same (pointer B img) (pointer B img') N (index_at B (e.size - 1)) e.head false 0
+            let z : visit_of (card_with B N img) (block_list e.head e.size) ≡ visit_held (pointer B img) N (index_at B (e.size - 1)) e.head None = visit_begins B N img e.head e.size (some e q) in
+            let z' : visit_of (card_with B N img') (block_list e.head e.size) ≡ visit_held (pointer B img') N (index_at B (e.size - 1)) e.head None = visit_begins B N img' e.head e.size (some e q) in
+            z' ∙ visit_same (pointer B img) (pointer B img') N (index_at B (e.size - 1)) e.head None
             (λ b h. a b (subst (λ (v : Visited). has (take (index_at B (e.size - 1)) v.handed) b ≡ true) (sym z) h)) ∙ sym z
 
     files_same : (es : List Entry) → ((b : ℕ) → has (read_by g img es) b ≡ true → (x : ℕ) → x ≤ 1 → pointer B img' b x ≡ pointer B img b x)

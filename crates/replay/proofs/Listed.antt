@@ -1,24 +1,27 @@
 -- What the records on block lists ask, from the words and parts that were read. Assumes nothing.
-use mathlib.Core.Path.{◌≡◌, ◌∙◌}
+use mathlib.Core.Path.{◌≡◌, refl, ◌∙◌}
 use mathlib.Core.Bool.{Bool, false}
 use mathlib.Core.List.{List}
 use Prim.Native.Nat.{ℕ, zero, suc, ◌+◌, ◌-◌, ◌≤◌, ◌<◌}
 use native.Mathlib.Numerals.{add-one}
 use native.Mathlib.Omega.{arith}
 use borrow.Author.Tests.{eq-eqb, ne_eqb}
+use lib.IntN.{ℤ}
+use lib.Signed.{mag}
+use mir.Syntax.{w32}
+use mir.Val.{to_z, of_z}
 use Rattle.layout.specs.declared.Geometry.{Geometry}
-use Rattle.std.specs.Prelude.{Result}
+use Rattle.std.specs.Prelude.{Option, None, Some, Result, Ok, Err}
 use Rattle.layout.specs.declared.Place.{Place}
 use Rattle.layout.specs.declared.Refusal.{Refusal}
+use Rattle.layout.specs.declared.Refusal.TheVariants.{Missing, TableFull, Exists, Invalid, TooLarge, NoSpace, Damaged}
+use Rattle.layout.specs.Refusals.{refusal_code}
 use Rattle.layout.specs.Layout.{place_of}
 use Rattle.layout.specs.inner.Served.{block_list, geometry}
 use Rattle.card.specs.inner.Cards.{card_with}
 use Rattle.ctz.specs.declared.Found.{Found}
 use Rattle.ctz.specs.declared.visit.Visit.{Visit}
-use Rattle.ctz.specs.declared.visit.Begun.{Begun}
-use Rattle.ctz.specs.declared.visit.Begun.TheVariants as begun
 use Rattle.ctz.specs.declared.visit.Step.{Step}
-use Rattle.ctz.specs.declared.visit.Step.TheVariants as step
 use Rattle.ctz.specs.Lookup.{lookup_of}
 use Rattle.ctz.specs.Visits.{begin_of, traverse_of}
 use Rattle.told_lists.specs.declared.TidIndex.{TidIndex}
@@ -26,6 +29,7 @@ use Rattle.told_lists.specs.declared.TidFind.{TidFind}
 use Rattle.told_lists.specs.Lists.{place_told, found_told}
 use Rattle.records.specs.Records.{word_of, geometry_of, image_of}
 use Rattle.records.specs.Agreement.{bare_of, told_of}
+use Rattle.records.proofs.Bare.{bare_is}
 use Rattle.replay.specs.Lists.{index_equal, lookup_on, find_equal, step_on, visited_of, begun_equal, visit_on, visit_equal}
 
 pub index_is : (list : List ℕ) (at b p code : ℕ) (f : Result Place Refusal) (a : TidIndex) (r : Bool) → b ≡ word_of list at 4 → p ≡ word_of list at 5 → f ≡ place_of b p → a ≡ place_told f
@@ -48,54 +52,64 @@ pub find_is : (list : List ℕ) (at card h s p code : ℕ) (f : Found) (a : TidF
 unfolding find_equal
 find_is list at card h s p code f a r w x y z e t k q = q ∙ rw (k, t, find_equal, e, w, x, y, z)
 
+-- a refusal's number without its sign
+pub refusal_is : (f : Refusal) (z : ℤ) (code : ℕ) → z ≡ refusal_code f → code ≡ bare_of (to_z w32 (of_z w32 z)) → code ≡ bare_of (refusal_code f)
+refusal_is f z code e q = bare_is (refusal_code f) code (small f) (q ∙ rw e refl)
+  where
+    small : (f : Refusal) → mag (refusal_code f) < 2147483648
+    small Missing = omega arith
+    small TableFull = omega arith
+    small Exists = omega arith
+    small Invalid = omega arith
+    small TooLarge = omega arith
+    small NoSpace = omega arith
+    small Damaged = omega arith
+
 -- a visit on a card, and the record of it
-pub visit_begins : (list : List ℕ) (card : ℕ) (g : Geometry) (h s : ℕ) (b : Begun) → g ≡ geometry_of list card
+pub visit_begins : (list : List ℕ) (card : ℕ) (g : Geometry) (h s : ℕ) (b : Result (Option Visit) Refusal) → g ≡ geometry_of list card
     → b ≡ begin_of (geometry g.block_size g.block_count) (block_list h s) → b ≡ visit_on list card h s
 visit_begins list card g h s b x e = e ∙ rw x
 
-pub visit_is : (list : List ℕ) (at card h s : ℕ) (b : Begun) (r : Bool) → card ≡ word_of list at 4 → h ≡ word_of list at 5 → s ≡ word_of list at 6
+pub visit_is : (list : List ℕ) (at card h s : ℕ) (b : Result (Option Visit) Refusal) (r : Bool) → card ≡ word_of list at 4 → h ≡ word_of list at 5 → s ≡ word_of list at 6
     → b ≡ visit_on list card h s → r ≡ begun_equal list at card (word_of list at 7) b → r ≡ visit_equal list at
 unfolding visit_equal
 visit_is list at card h s b r x y z e q = q ∙ rw (visit_equal, e, x, y, z)
 
 pub visited_is : (list : List ℕ) (at card blocks : ℕ) (v : Visit) (r : Bool) → blocks ≡ word_of list at 7 → r ≡ visited_of 64 list at card blocks 0 v
-    → r ≡ begun_equal list at card (word_of list at 7) (begun.At v)
+    → r ≡ begun_equal list at card (word_of list at 7) (Ok (Some v))
 visited_is list at card blocks v r x q = q ∙ rw x
 
-pub step_is : (list : List ℕ) (card : ℕ) (g : Geometry) (image : List ℕ) (v : Visit) (s : Step) → g ≡ geometry_of list card → image ≡ image_of list card
+pub begin_refused : (list : List ℕ) (at card : ℕ) (f : Refusal) (code : ℕ) (r : Bool) → code ≡ bare_of (refusal_code f) → r ≡ told_of list at code 0 0 0
+    → r ≡ begun_equal list at card (word_of list at 7) (Err f)
+begin_refused list at card f code r x q = q ∙ rw x
+
+pub step_is : (list : List ℕ) (card : ℕ) (g : Geometry) (image : List ℕ) (v : Visit) (s : Result Step Refusal) → g ≡ geometry_of list card → image ≡ image_of list card
     → s ≡ traverse_of (card_with g.block_size g.block_count image) v → s ≡ step_on list card v
 step_is list card g image v s x y e = e ∙ rw (x, y)
 
 -- what is left of a visit behind i blocks, by its next step
-module _ (list : List ℕ) (at card blocks i : ℕ) (v : Visit) (s : Step) (h : i < 64) (e : s ≡ step_on list card v) where
+module _ (list : List ℕ) (at card blocks i : ℕ) (v : Visit) (s : Result Step Refusal) (h : i < 64) (e : s ≡ step_on list card v) where
   one_more : 64 - i ≡ suc (64 - (i + 1))
   one_more = omega arith
 
-  pub step_damaged : s ≡ step.Damaged → visited_of (64 - i) list at card blocks i v ≡ told_of list at 84 i 0 0
+  pub step_refused : (f : Refusal) (code : ℕ) → code ≡ bare_of (refusal_code f) → s ≡ Err f → visited_of (64 - i) list at card blocks i v ≡ told_of list at code i 0 0
   unfolding visited_of
-  step_damaged p = rw (one_more, visited_of, ← e, p)
+  step_refused f code q p = rw (q, one_more, visited_of, ← e, p)
 
-  pub step_refused : s ≡ step.Refused → visited_of (64 - i) list at card blocks i v ≡ told_of list at 22 i 0 0
-  unfolding visited_of
-  step_refused p = rw (one_more, visited_of, ← e, p)
-
-  module _ (k w : ℕ) (a : w ≡ word_of list blocks i) where
-    pub last_other : s ≡ step.Last k → (k ≡ w → ⊥) → visited_of (64 - i) list at card blocks i v ≡ false
+  module _ (t : Step) (w : ℕ) (a : w ≡ word_of list blocks i) (p : s ≡ Ok t) where
+    pub step_other : (t.block ≡ w → ⊥) → visited_of (64 - i) list at card blocks i v ≡ false
     unfolding visited_of
-    last_other p d = rw (one_more, visited_of, ← e, p, ← a, ne_eqb k w d)
+    step_other d = rw (one_more, visited_of, ← e, p, ← a, ne_eqb t.block w d)
 
-    pub last_same : s ≡ step.Last k → k ≡ w → visited_of (64 - i) list at card blocks i v ≡ told_of list at 0 (i + 1) 0 0
-    unfolding visited_of
-    last_same p d = rw (one_more, visited_of, ← e, p, ← a, eq-eqb k w d, add-one i)
-
-    module _ (next : Visit) (p : s ≡ step.More k next) where
-      pub more_other : (k ≡ w → ⊥) → visited_of (64 - i) list at card blocks i v ≡ false
+    module _ (d : t.block ≡ w) where
+      pub step_last : t.next ≡ None → visited_of (64 - i) list at card blocks i v ≡ told_of list at 0 (i + 1) 0 0
       unfolding visited_of
-      more_other d = rw (one_more, visited_of, ← e, p, ← a, ne_eqb k w d)
+      step_last n = rw (one_more, visited_of, ← e, p, ← a, eq-eqb t.block w d, n, add-one i)
 
-      pub more_same : k ≡ w → visited_of (64 - i) list at card blocks i v ≡ visited_of (64 - (i + 1)) list at card blocks (i + 1) next
+      pub step_more : (next : Visit) → t.next ≡ Some next
+          → visited_of (64 - i) list at card blocks i v ≡ visited_of (64 - (i + 1)) list at card blocks (i + 1) next
       unfolding visited_of
-      more_same d = rw (one_more, visited_of, ← e, p, ← a, eq-eqb k w d, add-one i)
+      step_more next n = rw (one_more, visited_of, ← e, p, ← a, eq-eqb t.block w d, n, add-one i)
 
 pub none_left : (list : List ℕ) (at card blocks i : ℕ) (v : Visit) → 64 ≤ i → visited_of (64 - i) list at card blocks i v ≡ false
 unfolding visited_of

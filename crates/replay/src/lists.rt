@@ -4,7 +4,7 @@
 ghost use Rattle.std.specs.Prelude.{◌≡◌};
 ghost use Rattle.replay.specs.Lists.{index_equal, find_equal, visited_of, visit_equal};
 
-use ctz::visit::{Begun, Step, Visit};
+use ctz::visit::Visit;
 use records::agree::{bare, told};
 use records::{geometry, image, place, word};
 
@@ -37,30 +37,19 @@ fn visited(list: &[u8], at: usize, card: usize, blocks: usize, begun: Visit) -> 
 {
     let g = geometry(list, card);
     let mut v = begun;
-    let mut i: u32 = 0;
-    while i < 64 {
-        let step = ctz::visit::ctz_traverse(g, image(list, card), v);
-        match step {
-            Step::Last { block } => {
-                if block != word(list, blocks, i) {
+    for i in 0..64 {
+        match ctz::visit::ctz_traverse(g, image(list, card), v) {
+            Ok(step) => {
+                if step.block != word(list, blocks, i) {
                     return false;
                 }
-                return told(list, at, 0, i + 1, 0, 0);
-            }
-            Step::More { block, next } => {
-                if block != word(list, blocks, i) {
-                    return false;
+                match step.next {
+                    Some(next) => v = next,
+                    None => return told(list, at, 0, i + 1, 0, 0),
                 }
-                v = next;
             }
-            Step::Damaged => {
-                return told(list, at, 84, i, 0, 0);
-            }
-            Step::Refused => {
-                return told(list, at, 22, i, 0, 0);
-            }
+            Err(refusal) => return told(list, at, bare(refusal.code()), i, 0, 0),
         }
-        i += 1;
     }
     false
 }
@@ -70,10 +59,9 @@ pub fn visit(list: &[u8], at: usize) -> bool
     ensures { result ≡ visit_equal list.now at }
 {
     let card = place(list, at, 4);
-    let begun = ctz::visit::ctz_visit(geometry(list, card), word(list, at, 5), word(list, at, 6));
-    match begun {
-        Begun::Empty => told(list, at, 0, 0, 0, 0),
-        Begun::At { visit } => visited(list, at, card, place(list, at, 7), visit),
-        Begun::Refused => told(list, at, 22, 0, 0, 0),
+    match ctz::visit::ctz_visit(geometry(list, card), word(list, at, 5), word(list, at, 6)) {
+        Ok(Some(begun)) => visited(list, at, card, place(list, at, 7), begun),
+        Ok(None) => told(list, at, 0, 0, 0, 0),
+        Err(refusal) => told(list, at, bare(refusal.code()), 0, 0, 0),
     }
 }

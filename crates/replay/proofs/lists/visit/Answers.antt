@@ -1,24 +1,24 @@
 -- `lists::visit` meets its contract, case by case. Assumes nothing.
-use mathlib.Core.Path.{◌∙◌, ap, sym}
-use Rattle.replay.specs.Lists.{begun_equal}
-use Rattle.replay.proofs.Listed.{visit_begins, visit_is, visited_is}
+use mathlib.Core.Path.{◌≡◌, ◌∙◌, sym}
+use Rattle.std.specs.Prelude.{None, Some, Ok}
+use Rattle.replay.proofs.Listed.{visit_begins, visit_is, visited_is, refusal_is, begin_refused}
 use Rattle.replay.proofs.lists.visit.Goals as goal
 
-pub returns-in-Empty : goal.returns-in-Empty
-returns-in-Empty c =
+pub returns-in-Ok-Some : goal.returns-in-Ok-Some
+returns-in-Ok-Some c =
+    let e : c.ctz_visit.result ≡ Ok (Some c.in-Ok-Some.begun) = cc in
     visit_is _ _ _ _ _ _ _ c.place-card.ensures c.word.ensures c.word-2.ensures
-    (visit_begins _ _ _ _ _ _ c.geometry.ensures c.ctz_visit-begun.ensures)
-    (c.told.ensures ∙ ap (begun_equal _ _ _ _) (sym c.in-Empty.is))
+    (sym e ∙ visit_begins _ _ _ _ _ _ c.geometry.ensures c.ctz_visit.ensures)
+    (visited_is _ _ _ _ _ _ c.place.ensures c.visited.ensures)
 
-pub returns-in-At : goal.returns-in-At
-returns-in-At c =
-    visit_is _ _ _ _ _ _ _ c.place-card.ensures c.word.ensures
-    c.word-2.ensures (visit_begins _ _ _ _ _ _ c.geometry.ensures c.ctz_visit-begun.ensures)
-    (visited_is _ _ _ _ _ _ c.place.ensures c.visited.ensures ∙ ap (begun_equal _ _ _ _)
-    (sym c.in-At.is))
-
-pub returns-in-Refused : goal.returns-in-Refused
-returns-in-Refused c =
+pub returns-in-Ok-None : goal.returns-in-Ok-None
+returns-in-Ok-None c =
+    let e : c.ctz_visit.result ≡ Ok None = cc in
     visit_is _ _ _ _ _ _ _ c.place-card.ensures c.word.ensures c.word-2.ensures
-    (visit_begins _ _ _ _ _ _ c.geometry.ensures c.ctz_visit-begun.ensures)
-    (c.told-in-Refused.ensures ∙ ap (begun_equal _ _ _ _) (sym c.in-Refused.is))
+    (sym e ∙ visit_begins _ _ _ _ _ _ c.geometry.ensures c.ctz_visit.ensures) c.told.ensures
+
+pub returns-in-Err : goal.returns-in-Err
+returns-in-Err c =
+    visit_is _ _ _ _ _ _ _ c.place-card.ensures c.word.ensures c.word-2.ensures
+    (sym c.in-Err.is ∙ visit_begins _ _ _ _ _ _ c.geometry.ensures c.ctz_visit.ensures)
+    (begin_refused _ _ c.place-card.result _ _ _ (refusal_is _ _ _ c.code.ensures c.bare.ensures) c.told-in-Err.ensures)
