@@ -1,10 +1,11 @@
 -- Records on block lists: index, lookup and visit. A record is equal if the definition's answer is the one that it has: 0 or the refusal without its sign,
 -- and up to three values.
-use Rattle.std.specs.Prelude.{Bool, false, ◌&&◌, List, ℕ, zero, suc, eqb}
+use Rattle.std.specs.Prelude.{Bool, false, Result, ◌&&◌, List, ℕ, zero, suc, eqb}
 use Rattle.layout.specs.Numbers.{accepted, invalid, damaged_card}
 use Rattle.layout.specs.Layout.{place_of}
 use Rattle.layout.specs.inner.Served.{block_list, geometry}
 use Rattle.card.specs.inner.Cards.{card_with}
+use Rattle.layout.specs.declared.Refusal.{Refusal}
 use Rattle.ctz.specs.declared.Found.{Found}
 use Rattle.ctz.specs.declared.visit.Visit.{Visit}
 use Rattle.ctz.specs.declared.visit.Begun.{Begun}
@@ -32,7 +33,7 @@ abbrev pub found_equal : List ℕ → ℕ → TidFind → Bool
 found_equal list at a = told_of list at (bare_of a.code) a.block a.offset a.hops
 
 -- the lookup on a card
-abbrev pub lookup_on : List ℕ → ℕ → ℕ → ℕ → ℕ → Found
+abbrev pub lookup_on : List ℕ → ℕ → ℕ → ℕ → ℕ → Result Found Refusal
 lookup_on list card head size position =
     lookup_of (card_with (word_of list card 0) (word_of list card 1) (image_of list card)) (block_list head size) position
 
