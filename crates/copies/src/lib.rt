@@ -10,9 +10,8 @@ ghost use Rattle.plain.specs.inner.Forms.{range};
 ghost use Rattle.finding.specs.inner.Runs.{got_bytes};
 ghost use Rattle.copies.specs.inner.Copies.{Roomy, Parted, Cleared, copied_of};
 
-use ctz::Found;
-use finding::numbers::least;
 use finding::{found_all, turned};
+use layout::Refusal;
 
 // A part of block k into a buffer, from place `to` on.
 fn copy_part(b: u32, image: &[u8], k: u32, offset: u32, part: u32, to: usize, buffer: &mut [u8])
@@ -49,14 +48,12 @@ fn copy_all(
     let last = layout::index_at(b, pos + (count - 1));
     let first = layout::index_at(b, pos);
     let mut base = first;
-    let mut i = first;
     let mut offset = layout::offset_at(b, pos, first);
-    let mut p = pos;
     let mut left = count;
     let mut to = at;
-    while 0 < left {
+    for i in first..=last {
         base = turned(b, n, image, head, top, base, i, last, blocks);
-        let part = least(b - offset, left);
+        let part = (b - offset).min(left);
         copy_part(
             b,
             image,
@@ -66,15 +63,13 @@ fn copy_all(
             to,
             buffer,
         );
-        p += part;
         left -= part;
         to += part as usize;
-        i += 1;
-        offset = 4 * layout::pointer_count(i);
+        offset = 4 * layout::pointer_count(i + 1);
     }
 }
 
-// Those bytes into the front of a buffer, where every lookup finds its block. The first block, often the only one, is looked up by itself.
+// Those bytes into the front of a buffer, where every lookup finds its block; else the buffer is as it came. The first block, often the only one, is looked up by itself.
 pub fn copy_found(
     b: u32,
     n: u32,
@@ -84,44 +79,32 @@ pub fn copy_found(
     pos: u32,
     count: u32,
     buffer: &mut [u8],
-) -> bool
+) -> Result<(), Refusal>
     requires { Roomy b n size pos count (length image.now) (length buffer.old) }
     ensures { record { whole = result; after = buffer.new }
         ≡ copied_of buffer.old (gather count (card_with b n image.now) (block_list head size) (range pos count)) }
 {
-    let found = ctz::find_in(b, n, image, head, size, pos);
-    match found {
-        Found::At {
-            block,
-            offset,
-            hops: _,
-        } => {
-            let part = least(b - offset, count);
-            let rest = count - part;
-            if rest == 0 {
-                copy_part(b, image, block, offset, part, 0, buffer);
-                return true;
-            }
-            let mut blocks: [u32; 1024] = [0; 1024];
-            if !found_all(b, n, image, head, size, pos + part, rest, &mut blocks) {
-                return false;
-            }
-            copy_part(b, image, block, offset, part, 0, buffer);
-            copy_all(
-                b,
-                n,
-                image,
-                head,
-                size,
-                pos + part,
-                rest,
-                part as usize,
-                &mut blocks,
-                buffer,
-            );
-            true
-        }
-        Found::Damaged => false,
-        Found::Refused => false,
+    let found = ctz::find_in(b, n, image, head, size, pos)?;
+    let part = (b - found.offset).min(count);
+    let rest = count - part;
+    if rest == 0 {
+        copy_part(b, image, found.block, found.offset, part, 0, buffer);
+        return Ok(());
     }
+    let mut blocks: [u32; 1024] = [0; 1024];
+    found_all(b, n, image, head, size, pos + part, rest, &mut blocks)?;
+    copy_part(b, image, found.block, found.offset, part, 0, buffer);
+    copy_all(
+        b,
+        n,
+        image,
+        head,
+        size,
+        pos + part,
+        rest,
+        part as usize,
+        &mut blocks,
+        buffer,
+    );
+    Ok(())
 }

@@ -1,6 +1,5 @@
 -- A run found from its last index down: each block by one pointer of a block found before, or by a walk. Assumes nothing.
-use mathlib.Core.Path.{◌≡◌, refl, sym, ◌∙◌}
-use mathlib.Core.Bool.{true, false}
+use mathlib.Core.Path.{◌≡◌, refl, sym, ap, ◌∙◌}
 use mathlib.Core.Logic.{⊎_elim}
 use mathlib.Core.List.{List}
 use Prim.Native.Nat.{ℕ, suc, ◌+◌, ◌^◌, ◌≤◌, ◌<◌}
@@ -9,43 +8,43 @@ use native.Mathlib.Omega.{arith}
 use lib.ListN.{length, get_or, set}
 use lib.Pow.{pow_pos}
 use lib.Seq.{get_or-set_same, get_or-set_other}
+use Rattle.std.specs.Prelude.{Result, Ok, Err}
+use Rattle.layout.specs.declared.Refusal.{Refusal}
+use Rattle.layout.specs.declared.Refusal.TheVariants.{Damaged}
 use Rattle.hops.specs.Walk.{ctz}
 use Rattle.hops.proofs.Through.{pick_last}
 use Rattle.card.specs.inner.Cards.{PointerAsked}
 use Rattle.ctz.specs.declared.Found.{Found}
-use Rattle.ctz.specs.declared.Found.TheVariants.{At, Damaged, Refused}
-use Rattle.ctz.specs.inner.Runs.{seek, number_of, Finds, Leads, RunFound, RunKnown, RunGives}
+use Rattle.ctz.specs.inner.Runs.{seek, block_found, Finds, RunFound, RunKnown, RunGives}
 use Rattle.ctz.proofs.Room.{asked}
 use Rattle.ctz.proofs.Walked.{trail, pick_stored}
 use Rattle.ctz.proofs.Through.{through_at, through_lost}
 use Rattle.ctz.proofs.Lookups.{tells, answers}
 
--- ---- what the number of a lookup tells
+-- ---- what the block of a lookup tells
 
-module _ (ptr : ℕ → ℕ → ℕ) (N head top i k : ℕ) where
-  -- a number below N is the block's
-  number_found : k < N → N ≤ 65536 → k ≡ number_of (seek ptr N head top i) → Finds ptr N head top i k
-  number_found l s e = go (seek ptr N head top i) refl e
+module _ (ptr : ℕ → ℕ → ℕ) (N head top i : ℕ) where
+  -- a block is the one that the lookup finds
+  pub block_finds : {k : ℕ} → Ok k ≡ block_found (seek ptr N head top i) → Finds ptr N head top i k
+  block_finds {k} e = go (seek ptr N head top i) refl e
     where
-      go : (w : Found) → seek ptr N head top i ≡ w → k ≡ number_of w → Finds ptr N head top i k
-      go (At k' off h) q e =
+      go : (w : Result Found Refusal) → seek ptr N head top i ≡ w → Ok k ≡ block_found w → Finds ptr N head top i k
+      go (Ok f) q e =
           let t = tells (trail ptr N 0 i (suc top) top head 0) q in
-          (h, q ∙ cc)
-      go Damaged q e = absurd (omega arith)
-      go Refused q e = absurd (omega arith)
+          let o : f.offset ≡ 0 = t.1 in
+          let b : f.block ≡ k = cc in
+          (f.hops, q ∙ rw (o, b) refl)
+      go (Err r) q e = let z : ◌≡◌ {A = ℕ} 0 1 = cc in absurd (omega arith)
 
-  -- any other is that of no block
-  number_lost : N ≤ k → k ≡ number_of (seek ptr N head top i) → seek ptr N head top i ≡ Damaged
-  number_lost l e = go (seek ptr N head top i) refl e
+  -- no block: the lookup meets -84
+  pub block_lost : {r : Refusal} → Err r ≡ block_found (seek ptr N head top i) → (r ≡ Damaged) × (seek ptr N head top i ≡ Err Damaged)
+  block_lost {r} e = go (seek ptr N head top i) refl e
     where
-      go : (w : Found) → seek ptr N head top i ≡ w → k ≡ number_of w → seek ptr N head top i ≡ Damaged
-      go (At k' off h) q e = let t = tells (trail ptr N 0 i (suc top) top head 0) q in absurd (omega (arith, t.0))
-      go Damaged q e = q
-      go Refused q e = absurd (answers (trail ptr N 0 i (suc top) top head 0) q)
-
-  -- so a walk's number leads to the index
-  pub number_leads : N ≤ 65536 → k ≡ number_of (seek ptr N head top i) → Leads ptr N head top i k
-  number_leads s e = record { found = λ l. number_found l s e; lost = λ l. number_lost l e }
+      go : (w : Result Found Refusal) → seek ptr N head top i ≡ w → Err r ≡ block_found w → (r ≡ Damaged) × (seek ptr N head top i ≡ Err Damaged)
+      go (Ok f) q e = let z : ◌≡◌ {A = ℕ} 0 1 = cc in absurd (omega arith)
+      go (Err r') q e =
+          let a = answers (trail ptr N 0 i (suc top) top head 0) q in
+          (cc, q ∙ ap Err a)
 
 -- ---- one pointer instead of a walk
 
@@ -72,11 +71,12 @@ module _ {ptr : ℕ → ℕ → ℕ} {B N head top first count j len : ℕ} {blo
       (tells (trail ptr N 0 (i + 2 ^ ctz i) (suc top) top head 0) block.1).0
 
   -- and the last of those is what a walk takes
-  pub near_leads : Leads ptr N head top (first + j) (ptr (get_or blocks (j + d) 0) (ctz (first + j)))
-  near_leads = record {
-    found = λ l. (suc block.0, through_at ptr N head top i (get_or blocks (j + d) 0) block.0 small some inside block.1 l);
-    lost = through_lost ptr N head top i (get_or blocks (j + d) 0) block.0 small some inside block.1;
-  }
+  pub near_found : ptr (get_or blocks (j + d) 0) (ctz (first + j)) < N
+      → Ok (ptr (get_or blocks (j + d) 0) (ctz (first + j))) ≡ block_found (seek ptr N head top (first + j))
+  near_found l = sym (ap block_found (through_at ptr N head top i (get_or blocks (j + d) 0) block.0 small some inside block.1 l))
+
+  pub near_lost : N ≤ ptr (get_or blocks (j + d) 0) (ctz (first + j)) → Err Damaged ≡ block_found (seek ptr N head top (first + j))
+  near_lost l = sym (ap block_found (through_lost ptr N head top i (get_or blocks (j + d) 0) block.0 small some inside block.1 l))
 
 -- ---- the run from index first + j on
 
@@ -96,9 +96,15 @@ module _ (ptr : ℕ → ℕ → ℕ) (N head top first count : ℕ) (blocks : Li
       other b = rw (get_or-set_other blocks j m k 0 (λ e. omega arith)) (old m (omega arith) h)
 
   pub known_all : (j : ℕ) {room : ℕ} → length blocks ≡ room → j ≤ 0 → RunFound ptr N head top first count blocks j
-      → RunGives ptr N head top first count room true blocks
-  known_all j e z k = record { long = e; found = λ e m h. k m (omega arith) h; lost = λ e. let z : ◌≡◌ {A = ℕ} 0 1 = cc in absurd (omega arith) }
+      → RunGives ptr N head top first count room (Ok tt) blocks
+  known_all j e z k = record { long = e; found = λ e m h. k m (omega arith) h; lost = λ r e. let z : ◌≡◌ {A = ℕ} 0 1 = cc in absurd (omega arith) }
 
-  pub run_lost : (j : ℕ) {room : ℕ} → length blocks ≡ room → j < count → seek ptr N head top (first + j) ≡ Damaged
-      → RunGives ptr N head top first count room false blocks
-  run_lost j l h e = record { long = l; found = λ e. let z : ◌≡◌ {A = ℕ} 0 1 = cc in absurd (omega arith); lost = λ q. (j, (h, e)) }
+  pub run_lost : (j : ℕ) {room : ℕ} {r : Refusal} → length blocks ≡ room → j < count → Err r ≡ block_found (seek ptr N head top (first + j))
+      → RunGives ptr N head top first count room (Err r) blocks
+  run_lost j l h e =
+      let m = block_lost ptr N head top (first + j) e in
+      record {
+        long = l;
+        found = λ e. let z : ◌≡◌ {A = ℕ} 0 1 = cc in absurd (omega arith);
+        lost = λ r e. let same = m.0 in (cc, (j, (h, m.1)));
+      }

@@ -2,30 +2,21 @@
 ghost use Rattle.std.specs.Prelude.{◌≡◌, ◌+◌, length};
 ghost use Rattle.card.specs.Card.{pointer};
 ghost use Rattle.ctz.specs.inner.Bounds.{Walks, RunAsked};
-ghost use Rattle.ctz.specs.inner.Runs.{seek, number_of, Leads, RunKnown, RunGives};
+ghost use Rattle.ctz.specs.inner.Runs.{seek, block_found, RunKnown, RunGives};
 
-use crate::Found;
-use layout::Geometry;
+use layout::Refusal;
 
-// The block of an index, by a walk from the head; the null block where the walk meets -84.
-fn walked(b: u32, n: u32, image: &[u8], head: u32, top: u32, i: u32) -> u32
+// The block of an index, by a walk from the head.
+fn walked(b: u32, n: u32, image: &[u8], head: u32, top: u32, i: u32) -> Result<u32, Refusal>
     requires { Walks b n top (length image.now) }
-    ensures { result ≡ number_of (seek (pointer b image.now) n head top i) }
+    ensures { result ≡ block_found (seek (pointer b image.now) n head top i) }
 {
-    let found = crate::walk_to(b, n, image, 0, i, top, head);
-    match found {
-        Found::At {
-            block,
-            offset: _,
-            hops: _,
-        } => block,
-        Found::Damaged => Geometry::NULL,
-        Found::Refused => Geometry::NULL,
-    }
+    let found = crate::walk_to(b, n, image, 0, i, top, head)?;
+    Ok(found.block)
 }
 
 // The block of index first + j, where the blocks of the run's later indexes are known: by one pointer of the block that the lookup passes
-// through last, where that is one of them; else by a walk. Where the lookup meets -84, a number that is none of a block.
+// through last, where that is one of them; else by a walk.
 fn led(
     b: u32,
     n: u32,
@@ -36,9 +27,9 @@ fn led(
     count: u32,
     j: u32,
     blocks: &[u32; 1024],
-) -> u32
+) -> Result<u32, Refusal>
     requires { RunKnown (pointer b image.now) b n head top first count j (length image.now) blocks.now }
-    ensures { Leads (pointer b image.now) n head top (first + j) result }
+    ensures { result ≡ block_found (seek (pointer b image.now) n head top (first + j)) }
 {
     let i = first + j;
     if i == 0 {
@@ -49,10 +40,14 @@ fn led(
     if count - j <= d {
         return walked(b, n, image, head, top, i);
     }
-    card::pointer(image, b, blocks[(j + d) as usize], x)
+    let block = card::pointer(image, b, blocks[(j + d) as usize], x);
+    if n <= block {
+        return Err(Refusal::Damaged);
+    }
+    Ok(block)
 }
 
-// The blocks of the `count` indexes from `first` on go to the front of `blocks`; false where a lookup among theirs meets -84.
+// The blocks of the `count` indexes from `first` on go to the front of `blocks`; -84 where a lookup among theirs meets it.
 pub fn find_run(
     b: u32,
     n: u32,
@@ -62,18 +57,12 @@ pub fn find_run(
     first: u32,
     count: u32,
     blocks: &mut [u32; 1024],
-) -> bool
+) -> Result<(), Refusal>
     requires { RunAsked b n top first count (length image.now) (length blocks.old) }
     ensures { RunGives (pointer b image.now) n head top first count (length blocks.old) result blocks.new }
 {
-    let mut j = count;
-    while 0 < j {
-        j -= 1;
-        let k = led(b, n, image, head, top, first, count, j, blocks);
-        if n <= k {
-            return false;
-        }
-        blocks[j as usize] = k;
+    for j in (0..count).rev() {
+        blocks[j as usize] = led(b, n, image, head, top, first, count, j, blocks)?;
     }
-    true
+    Ok(())
 }

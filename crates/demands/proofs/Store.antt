@@ -12,8 +12,8 @@ use Rattle.hops.specs.Walk.{hops}
 use Rattle.hops.specs.inner.Ways.{way}
 use Rattle.card.specs.Card.{good_card}
 use Rattle.card.specs.inner.Cards.{CardFacts, card_with}
-use Rattle.ctz.specs.declared.Found.TheVariants.{At}
 use Rattle.ctz.specs.Lists.{SoundList, block_at}
+use Rattle.ctz.specs.Lookup.{found_at}
 use Rattle.plain.specs.Bytes.{bytes}
 use Rattle.plain.specs.inner.Forms.{GoodList}
 use Rattle.plain.proofs.Indexes.{card_of_lem}
@@ -124,7 +124,7 @@ module _ (B N l : ℕ) (health : List ℕ) (t : Table) (w : Lookahead) (img : Li
   looks img' c st p h =
       let s = same_file B N img img' (long img' c) bf.sounds st a in
       ap look_of (walk_sound (frames.frame_good s good) (frames.frame_sound s sl) p h
-      ∙ ap (λ (k : ℕ). At k (offset_at B p) (hops (way (index_at B (e.size - 1)) (index_at B p)))) (frames.frame_at s (omega arith) (index_at B p)))
+      ∙ ap (λ (k : ℕ). found_at k (offset_at B p) (hops (way (index_at B (e.size - 1)) (index_at B p)))) (frames.frame_at s (omega arith) (index_at B p)))
 
   given : writes.Given (look_in B N e) B N (job_of e pos src) (Listed listed) Ok (checkpoint_of N w) img
   given = record {

@@ -11,9 +11,8 @@ use Rattle.layout.specs.inner.Served.{block_list}
 use Rattle.layout.proofs.Places.{index_mono}
 use Rattle.card.specs.Card.{pointer}
 use Rattle.card.specs.inner.Cards.{card_with}
-use Rattle.ctz.specs.declared.Found.TheVariants.{At}
 use Rattle.ctz.specs.Lists.{SoundList, block_at}
-use Rattle.ctz.specs.Lookup.{lookup_of}
+use Rattle.ctz.specs.Lookup.{found_at, lookup_of}
 use Rattle.ctz.specs.Visits.{visit_of}
 use Rattle.ctz.proofs.Sounds.{at}
 use Rattle.plain.specs.Bytes.{bytes}
@@ -54,7 +53,7 @@ pub record Shrunk (B N l : ℕ) (files : List Entry) (e : Entry) (m k q : ℕ) (
 
 -- A shrinking truncate that finds the block of the last kept byte leaves such a file.
 pub shrink_keeps : (B N l : ℕ) (files : List Entry) (w : Lookahead) (img : List ℕ) → Before B N l files w img
-    → (e : Entry) (m : ℕ) → AtPlace e m files → (q k o h : ℕ) → 0 < q → q ≤ e.size → lookup_of (card_with B N img) (block_list e.head e.size) (q - 1) ≡ At k o h
+    → (e : Entry) (m : ℕ) → AtPlace e m files → (q k o h : ℕ) → 0 < q → q ≤ e.size → lookup_of (card_with B N img) (block_list e.head e.size) (q - 1) ≡ found_at k o h
     → Shrunk B N l files e m k q w img
 shrink_keeps B N l files w img bf e m place q k o h p le lk = record {
   plain = front.1;

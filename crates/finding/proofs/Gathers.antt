@@ -10,12 +10,14 @@ use lib.Dec.{ltb}
 use lib.ListN.{length, take, drop, length-append}
 use lib.Seq.{sets, length-sets}
 use Rattle.span.proofs.Runs.{sets_append}
+use Rattle.std.specs.Prelude.{Result, Ok, Err}
+use Rattle.layout.specs.declared.Refusal.{Refusal}
+use Rattle.layout.specs.declared.Refusal.TheVariants as refusal
 use Rattle.layout.specs.inner.Served.{block_list}
 use Rattle.card.specs.inner.Cards.{card_with}
 use Rattle.card.proofs.Cards.{block_inside}
 use Rattle.ctz.specs.declared.Found.{Found}
-use Rattle.ctz.specs.declared.Found.TheVariants as found
-use Rattle.ctz.specs.Lookup.{walk_to}
+use Rattle.ctz.specs.Lookup.{found_at, walk_to}
 use Rattle.ctz.specs.inner.Bounds.{LookupAsked}
 use Rattle.ctz.proofs.Lookups.{found_tells, found_answers}
 use Rattle.plain.specs.Reading.{Bytes, before, gather, Gathered}
@@ -36,13 +38,13 @@ module _ (image : List ℕ) (head : ℕ) {B N size p n : ℕ} (r : Ranged B N si
   pub sought : LookupAsked B N size p (length image)
   sought = record { card = r.card; most = r.most; below = omega (arith, r.inside) }
 
-  pub offset_below : {k off h : ℕ} → walk_to (card_with B N image) (block_list head size) p ≡ found.At k off h → off < B
+  pub offset_below : {k off h : ℕ} → walk_to (card_with B N image) (block_list head size) p ≡ found_at k off h → off < B
   offset_below e = (found_tells image head sought e).inside
 
-  pub never_refused : walk_to (card_with B N image) (block_list head size) p ≡ found.Refused → ⊥
-  never_refused e = found_answers image head sought e
+  pub only_damaged : {d : Refusal} → walk_to (card_with B N image) (block_list head size) p ≡ Err d → walk_to (card_with B N image) (block_list head size) p ≡ Err refusal.Damaged
+  only_damaged e = e ∙ ap Err (found_answers image head sought e)
 
-  pub step : {k off h : ℕ} (m : ℕ) → walk_to (card_with B N image) (block_list head size) p ≡ found.At k off h → m ≡ min (B - off) n → Step B N size p n (length image) k off m
+  pub step : {k off h : ℕ} (m : ℕ) → walk_to (card_with B N image) (block_list head size) p ≡ found_at k off h → m ≡ min (B - off) n → Step B N size p n (length image) k off m
   step {k} {off} m e q =
       let t = found_tells image head sought e in
       let a = min-le_left (B - off) n in
@@ -65,18 +67,17 @@ module _ (image : List ℕ) (head : ℕ) {B N size : ℕ} where
   gather_fuel (suc f) zero p n hf hg r = rw (gather, le-ltb 0 n hg)
   gather_fuel (suc f) (suc g) p n hf hg r = go (ltb 0 n) refl (walk_to (card_with B N image) (block_list head size) p) refl (gather_fuel f g)
     where
-      go : (t : Bool) → ltb 0 n ≡ t → (w : Found) → walk_to (card_with B N image) (block_list head size) p ≡ w
+      go : (t : Bool) → ltb 0 n ≡ t → (w : Result Found Refusal) → walk_to (card_with B N image) (block_list head size) p ≡ w
           → ((p n : ℕ) → n ≤ f → n ≤ g → Ranged B N size p n (length image) → gather f (card_with B N image) (block_list head size) (range p n) ≡ gather g (card_with B N image) (block_list head size) (range p n))
           → gather (suc f) (card_with B N image) (block_list head size) (range p n) ≡ gather (suc g) (card_with B N image) (block_list head size) (range p n)
       go false e w q ih = rw (gather, e)
-      go true e (found.At k off h) q ih =
-          let m = min (B - off) n in
+      go true e (Ok found) q ih =
+          let m = min (B - found.offset) n in
           let s = step image head r (ltb-true 0 n e) m q refl in
           let less : n - m ≤ f = omega (arith, s.some, s.most_left) in
           let less' : n - m ≤ g = omega (arith, s.some, s.most_left) in
-          rw (gather, e, q) (ap (before (take m (drop (k * B + off) image))) (ih (p + m) (n - m) less less' s.rest))
-      go true e found.Damaged q ih = rw (gather, e, q)
-      go true e found.Refused q ih = rw (gather, e, q)
+          rw (gather, e, q) (ap (before (take m (drop (found.block * B + found.offset) image))) (ih (p + m) (n - m) less less' s.rest))
+      go true e (Err d) q ih = rw (gather, e, only_damaged image head r (ltb-true 0 n e) q)
 
 -- n bytes from position p on
 abbrev all : List ℕ → ℕ → ℕ → ℕ → ℕ → ℕ → ℕ → Gathered
@@ -89,13 +90,19 @@ unfolding gather
 all_none image B N head size p zero h = refl
 all_none image B N head size p (suc n) h = absurd (omega arith)
 
-pub all_damaged : (image : List ℕ) (B N head size p n : ℕ) → 0 < n → walk_to (card_with B N image) (block_list head size) p ≡ found.Damaged → all image B N head size p n ≡ Gathered.Damaged
+pub all_damaged : (image : List ℕ) (B N head size p n : ℕ) → 0 < n → walk_to (card_with B N image) (block_list head size) p ≡ Err refusal.Damaged → all image B N head size p n ≡ Gathered.Damaged
 unfolding gather
 all_damaged image B N head size p zero h e = absurd (omega arith)
 all_damaged image B N head size p (suc n) h e = rw (gather, lt-ltb 0 (suc n) h, e)
 
+pub all_lost : (image : List ℕ) (head : ℕ) {B N size p n : ℕ} → Ranged B N size p n (length image) → 0 < n → {d : Refusal}
+    → walk_to (card_with B N image) (block_list head size) p ≡ Err d → clean (all image B N head size p n) ≡ Err d
+all_lost image head {B} {N} {size} {p} {n} r some e =
+    ap clean (all_damaged image B N head size p n some (only_damaged image head r some e))
+    ∙ sym (ap Err (found_answers image head (sought image head r some) e))
+
 all_turn : (image : List ℕ) (head : ℕ) {B N size : ℕ} (p n : ℕ) → Ranged B N size p n (length image) → 0 < n → {k off h : ℕ} (m : ℕ)
-    → walk_to (card_with B N image) (block_list head size) p ≡ found.At k off h → m ≡ min (B - off) n
+    → walk_to (card_with B N image) (block_list head size) p ≡ found_at k off h → m ≡ min (B - off) n
     → all image B N head size p n ≡ before (take m (drop (k * B + off) image)) (all image B N head size (p + m) (n - m))
 unfolding gather
 all_turn image head p zero r some m e q = absurd (omega arith)
@@ -108,7 +115,7 @@ all_turn image head {B} {N} {size} p (suc n) r some {k} {off} m e q =
 -- ---- the passes, turn by turn
 
 module _ (image : List ℕ) (head : ℕ) {B N size p n : ℕ} (r : Ranged B N size p n (length image)) (some : 0 < n)
-    {k off h : ℕ} (m : ℕ) (e : walk_to (card_with B N image) (block_list head size) p ≡ found.At k off h) (q : m ≡ min (B - off) n) where
+    {k off h : ℕ} (m : ℕ) (e : walk_to (card_with B N image) (block_list head size) p ≡ found_at k off h) (q : m ≡ min (B - off) n) where
   abbrev now : Gathered
   now = all image B N head size p n
 
@@ -124,13 +131,13 @@ module _ (image : List ℕ) (head : ℕ) {B N size p n : ℕ} (r : Ranged B N si
   pub part_length : length part ≡ m
   part_length = let s = step image head r some m e q in length_part image (k * B + off) m (omega (arith, s.in_block, s.inside))
 
-  pub bytes_turn : clean now ≡ true → got_bytes now ≡ part ++ got_bytes later
+  pub bytes_turn : clean now ≡ Ok tt → got_bytes now ≡ part ++ got_bytes later
   bytes_turn c = ap got_bytes (all_turn image head p n r some m e q) ∙ bytes_before part later (sym clean_turn ∙ c)
 
   pub copy_keeps : (buffer after : List ℕ) (to : ℕ) → after ≡ sets buffer to part → length after ≡ length buffer
   copy_keeps buffer after to a = ap (λ (bs : List ℕ). length bs) a ∙ length-sets buffer to part
 
-  pub copy_turn : (buffer after : List ℕ) (to : ℕ) → clean now ≡ true → after ≡ sets buffer to part
+  pub copy_turn : (buffer after : List ℕ) (to : ℕ) → clean now ≡ Ok tt → after ≡ sets buffer to part
       → sets buffer to (got_bytes now) ≡ sets after (to + m) (got_bytes later)
   copy_turn buffer after to c a =
       ap (sets buffer to) (bytes_turn c) ∙ sets_append buffer to part (got_bytes later)
@@ -138,13 +145,13 @@ module _ (image : List ℕ) (head : ℕ) {B N size p n : ℕ} (r : Ranged B N si
       ∙ ap (λ (bs : List ℕ). sets bs (to + m) (got_bytes later)) (sym a)
 
   -- the first block of a run, then the rest
-  pub copy_first : (buffer after end : List ℕ) → clean now ≡ true → after ≡ sets buffer 0 part → end ≡ sets after m (got_bytes later)
+  pub copy_first : (buffer after end : List ℕ) → clean now ≡ Ok tt → after ≡ sets buffer 0 part → end ≡ sets after m (got_bytes later)
       → end ≡ sets buffer 0 (got_bytes now)
   copy_first buffer after end c a f =
       f ∙ ap (λ (x : ℕ). sets after x (got_bytes later)) (sym (zero-add m)) ∙ sym (copy_turn buffer after 0 c a)
 
   -- a run that ends in its first block
-  pub copy_only : (buffer after : List ℕ) → n - m ≤ 0 → after ≡ sets buffer 0 part → (clean now ≡ true) × (after ≡ sets buffer 0 (got_bytes now))
+  pub copy_only : (buffer after : List ℕ) → n - m ≤ 0 → after ≡ sets buffer 0 part → (clean now ≡ Ok tt) × (after ≡ sets buffer 0 (got_bytes now))
   copy_only buffer after l a =
       let none = all_none image B N head size (p + m) (n - m) l in
       let c = clean_turn ∙ ap clean none in
@@ -165,21 +172,30 @@ module _ (image : List ℕ) (head : ℕ) {B N size : ℕ} where
   gave_many zero p n hf r = subst (Gave n) (sym (all_none image B N head size p n hf)) (copied [] (omega arith))
   gave_many (suc f) p n hf r = go (ltb 0 n) refl (walk_to (card_with B N image) (block_list head size) p) refl (gave_many f)
     where
-      go : (t : Bool) → ltb 0 n ≡ t → (w : Found) → walk_to (card_with B N image) (block_list head size) p ≡ w
+      go : (t : Bool) → ltb 0 n ≡ t → (w : Result Found Refusal) → walk_to (card_with B N image) (block_list head size) p ≡ w
           → ((p n : ℕ) → n ≤ f → Ranged B N size p n (length image) → Gave n (all image B N head size p n)) → Gave n (all image B N head size p n)
       go false t w q ih =
           let z = ltb-false 0 n t in subst (Gave n) (sym (all_none image B N head size p n z)) (copied [] (omega arith))
-      go true t (found.At k off h) q ih =
-          let m = min (B - off) n in
+      go true t (Ok found) q ih =
+          let m = min (B - found.offset) n in
           let some = ltb-true 0 n t in
           let s = step image head r some m q refl in
           let less : n - m ≤ f = omega (arith, s.some, s.most_left) in
           let whole : m + (n - m) ≡ n = omega (arith, s.most_left) in
           subst (Gave n) (sym (all_turn image head p n r some m q refl))
-          (gave_before (take m (drop (k * B + off) image)) m (n - m) n (part_length image head r some m q refl) whole
+          (gave_before (take m (drop (found.block * B + found.offset) image)) m (n - m) n (part_length image head r some m q refl) whole
           (ih (p + m) (n - m) less s.rest))
-      go true t found.Damaged q ih = subst (Gave n) (sym (all_damaged image B N head size p n (ltb-true 0 n t) q)) damaged
-      go true t found.Refused q ih = absurd (never_refused image head r (ltb-true 0 n t) q)
+      go true t (Err d) q ih =
+          let some = ltb-true 0 n t in
+          subst (Gave n) (sym (all_damaged image B N head size p n some (only_damaged image head r some q))) damaged
 
   pub gave : (p n : ℕ) → Ranged B N size p n (length image) → Gave n (all image B N head size p n)
   gave p n r = gave_many n p n (omega arith) r
+
+  -- so a run that is not clean meets -84
+  pub not_clean : (p n : ℕ) → Ranged B N size p n (length image) → (clean (all image B N head size p n) ≡ Ok tt → ⊥) → clean (all image B N head size p n) ≡ Err refusal.Damaged
+  not_clean p n r w = go (gave p n r) w
+    where
+      go : {g : Gathered} → Gave n g → (clean g ≡ Ok tt → ⊥) → clean g ≡ Err refusal.Damaged
+      go (copied bs q) w = absurd (w refl)
+      go damaged w = refl

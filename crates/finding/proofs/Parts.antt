@@ -1,12 +1,13 @@
 -- Parts of the image, and runs that begin with a part. Assumes nothing.
 use mathlib.Core.Path.{◌≡◌, refl, sym, ap, ◌∙◌}
-use mathlib.Core.Bool.{Bool, true, false}
 use mathlib.Core.List.{List, [], ◌∷◌, ◌++◌}
 use Prim.Native.Nat.{ℕ, zero, suc, ◌+◌, ◌-◌, ◌≤◌}
 use native.Mathlib.Nat.{zero-sub, sub-zero}
 use native.Mathlib.Omega.{arith}
 use lib.ListN.{length, take, drop, length-drop}
 use lib.Seq.{length-take-le, take-take, take-nil, drop-drop}
+use Rattle.std.specs.Prelude.{Result, Ok, Err}
+use Rattle.layout.specs.declared.Refusal.{Refusal}
 use Rattle.plain.specs.Reading.{Bytes, before, Gathered}
 use Rattle.finding.specs.inner.Runs.{clean, got_bytes}
 
@@ -17,12 +18,12 @@ clean_before part (Bytes rest) = refl
 clean_before part Gathered.Damaged = refl
 clean_before part Gathered.Refused = refl
 
-pub bytes_before : (part : List ℕ) (g : Gathered) → clean g ≡ true → got_bytes (before part g) ≡ part ++ got_bytes g
+pub bytes_before : (part : List ℕ) (g : Gathered) → clean g ≡ Ok tt → got_bytes (before part g) ≡ part ++ got_bytes g
 bytes_before part (Bytes rest) e = refl
 bytes_before part Gathered.Damaged e = let z : ◌≡◌ {A = ℕ} 0 1 = cc in absurd (omega arith)
 bytes_before part Gathered.Refused e = let z : ◌≡◌ {A = ℕ} 0 1 = cc in absurd (omega arith)
 
-pub never_both : {b : Bool} → b ≡ true → b ≡ false → ⊥
+pub never_both : {r : Result (Unit {0}) Refusal} {e : Refusal} → r ≡ Ok tt → r ≡ Err e → ⊥
 never_both t f = let z : ◌≡◌ {A = ℕ} 0 1 = cc in omega arith
 
 -- the bytes of a part that lies within the image

@@ -9,6 +9,8 @@ use native.Mathlib.Omega.{arith}
 use borrow.Author.Tests.{ltb-true, ltb-false}
 use lib.Dec.{ltb}
 use lib.ListN.{length}
+use Rattle.std.specs.Prelude.{Result, Ok, Err}
+use Rattle.layout.specs.declared.Refusal.{Refusal}
 use Rattle.layout.specs.Layout.{index_at, offset_at, pointers}
 use Rattle.layout.specs.inner.Served.{Served, block_list}
 use Rattle.layout.proofs.Places.{Next, Same, next_place, index_mono, offset_inside}
@@ -16,8 +18,7 @@ use Rattle.layout.proofs.Served.{served, index_in, index_below}
 use Rattle.card.specs.Card.{pointer}
 use Rattle.card.specs.inner.Cards.{card_with}
 use Rattle.ctz.specs.declared.Found.{Found}
-use Rattle.ctz.specs.declared.Found.TheVariants as found
-use Rattle.ctz.specs.Lookup.{walk_to}
+use Rattle.ctz.specs.Lookup.{found_at, walk_to}
 use Rattle.ctz.specs.inner.Runs.{seek, Finds}
 use Rattle.ctz.proofs.Lookups.{walk_is, found_tells}
 use Rattle.ctz.proofs.Room.{walks}
@@ -28,7 +29,7 @@ use Rattle.plain.proofs.Indexes.{run_index, run_offset}
 use Rattle.finding.specs.inner.Bounds.{Ranged}
 use Rattle.finding.specs.inner.Runs.{Reached, Tested, Indexed, clean}
 use Rattle.finding.proofs.Parts.{never_both}
-use Rattle.finding.proofs.Gathers.{sought, never_refused, step, clean_turn, all_none, all_damaged}
+use Rattle.finding.proofs.Gathers.{sought, only_damaged, step, clean_turn, all_none, all_damaged, not_clean}
 
 -- the list of a run of positions can be walked
 pub indexed : {B N size p n len : ℕ} → Ranged B N size p n len → 0 < n → {top last : ℕ} → top ≡ index_at B (size - 1) → last ≡ index_at B (p + (n - 1))
@@ -47,15 +48,15 @@ ordered {B} {p = p} {n = n} r some e f = omega (arith, e, f, index_mono B p (p +
 
 module _ (image : List ℕ) (head : ℕ) {B N size p n : ℕ} (r : Ranged B N size p n (length image)) (some : 0 < n) where
   -- the lookup of a position is that of its index
-  pub found_at : {k : ℕ} → Finds (pointer B image) N head (index_at B (size - 1)) (index_at B p) k
-      → (h : ℕ) × (walk_to (card_with B N image) (block_list head size) p ≡ found.At k (offset_at B p) h)
-  found_at f = (
+  pub walk_found : {k : ℕ} → Finds (pointer B image) N head (index_at B (size - 1)) (index_at B p) k
+      → (h : ℕ) × (walk_to (card_with B N image) (block_list head size) p ≡ found_at k (offset_at B p) h)
+  walk_found f = (
     f.0,
     sym (walk_is B N image head size p (index_at B (size - 1)) (index_at B p) (offset_at B p) refl refl refl)
         ∙ walk_offset (pointer B image) N 0 (offset_at B p) _ _ _ _ _ f.1,
   )
 
-  pub at_found : {k off h : ℕ} → walk_to (card_with B N image) (block_list head size) p ≡ found.At k off h → Finds (pointer B image) N head (index_at B (size - 1)) (index_at B p) k
+  pub at_found : {k off h : ℕ} → walk_to (card_with B N image) (block_list head size) p ≡ found_at k off h → Finds (pointer B image) N head (index_at B (size - 1)) (index_at B p) k
   at_found {h = h} e = (
     h,
     walk_offset (pointer B image) N (offset_at B p) 0 _ _ _ _ _
@@ -97,7 +98,7 @@ module _ (image : List ℕ) (head B N size : ℕ) where
   Run p n = Reached (pointer B image) N head (index_at B (size - 1)) (index_at B p) (index_at B (p + (n - 1)))
 
   abbrev Clean : ℕ → ℕ → Type 0
-  Clean p n = clean (gather n (card_with B N image) (block_list head size) (range p n)) ≡ true
+  Clean p n = clean (gather n (card_with B N image) (block_list head size) (range p n)) ≡ Ok tt
 
   clean_many : (f p n : ℕ) → n ≤ f → Ranged B N size p n (length image) → (0 < n → Run p n) → Clean p n
   clean_many zero p n hf r w = ap clean (all_none image B N head size p n hf)
@@ -108,7 +109,7 @@ module _ (image : List ℕ) (head B N size : ℕ) where
       go true t ih =
           let some = ltb-true 0 n t in
           let k = w some (index_at B p) (omega arith) (index_mono B p (p + (n - 1)) (omega arith)) in
-          let h = found_at image head r some k.1 in
+          let h = walk_found image head r some k.1 in
           let m = min (B - offset_at B p) n in
           let s = step image head r some m h.1 refl in
           let later = index_mono B p (p + m) (omega arith) in
@@ -125,52 +126,49 @@ module _ (image : List ℕ) (head B N size : ℕ) where
   reached_many zero p n hf some r c x l u = absurd (omega arith)
   reached_many (suc f) p n hf some r c x l u = go (walk_to (card_with B N image) (block_list head size) p) refl (reached_many f)
     where
-      go : (w : Found) → walk_to (card_with B N image) (block_list head size) p ≡ w
+      go : (w : Result Found Refusal) → walk_to (card_with B N image) (block_list head size) p ≡ w
           → ((p n : ℕ) → n ≤ f → 0 < n → Ranged B N size p n (length image) → Clean p n → Run p n)
           → (k : ℕ) × Finds (pointer B image) N head (index_at B (size - 1)) x k
-      go found.Damaged e ih = absurd (never_both c (ap clean (all_damaged image B N head size p n some e)))
-      go found.Refused e ih = absurd (never_refused image head r some e)
-      go (found.At k off h) e ih = ⊎_elim first further (eq-or-lt_of_le l)
+      go (Err d) e ih = absurd (never_both c (ap clean (all_damaged image B N head size p n some (only_damaged image head r some e))))
+      go (Ok found) e ih = ⊎_elim first further (eq-or-lt_of_le l)
         where
-          o : off ≡ offset_at B p
+          o : found.offset ≡ offset_at B p
           o = (found_tells image head (sought image head r some) e).place
 
-          q : min (B - off) n ≡ min (B - offset_at B p) n
+          q : min (B - found.offset) n ≡ min (B - offset_at B p) n
           q = ap (λ (y : ℕ). min (B - y) n) o
 
           first : index_at B p ≡ x → (k : ℕ) × Finds (pointer B image) N head (index_at B (size - 1)) x k
-          first y = (k, subst (λ (y : ℕ). Finds (pointer B image) N head (index_at B (size - 1)) y k) y (at_found image head r some e))
+          first y = (found.block, subst (λ (y : ℕ). Finds (pointer B image) N head (index_at B (size - 1)) y found.block) y (at_found image head r some e))
 
-          behind : (t : Bool) → ltb (min (B - off) n) n ≡ t → index_at B p < x → (k : ℕ) × Finds (pointer B image) N head (index_at B (size - 1)) x k
-          behind false t y = absurd (omega (arith, part_whole image head r some (min (B - off) n) q (ltb-false (min (B - off) n) n t)))
+          behind : (t : Bool) → ltb (min (B - found.offset) n) n ≡ t → index_at B p < x → (k : ℕ) × Finds (pointer B image) N head (index_at B (size - 1)) x k
+          behind false t y = absurd (omega (arith, part_whole image head r some (min (B - found.offset) n) q (ltb-false (min (B - found.offset) n) n t)))
           behind true t y =
-              let b = ltb-true (min (B - off) n) n t in
-              let s = step image head r some (min (B - off) n) e refl in
-              let w : p + min (B - off) n + (n - min (B - off) n - 1) ≡ p + (n - 1) = omega (arith, s.most_left) in
-              ih (p + min (B - off) n) (n - min (B - off) n) (omega (arith, s.some, s.most_left)) (omega arith) s.rest
-              (sym (clean_turn image head r some (min (B - off) n) e refl) ∙ c)
-              x (omega (arith, (part_next image head r some (min (B - off) n) q b).0)) (omega (arith, ap (index_at B) w))
+              let b = ltb-true (min (B - found.offset) n) n t in
+              let s = step image head r some (min (B - found.offset) n) e refl in
+              let w : p + min (B - found.offset) n + (n - min (B - found.offset) n - 1) ≡ p + (n - 1) = omega (arith, s.most_left) in
+              ih (p + min (B - found.offset) n) (n - min (B - found.offset) n) (omega (arith, s.some, s.most_left)) (omega arith) s.rest
+              (sym (clean_turn image head r some (min (B - found.offset) n) e refl) ∙ c)
+              x (omega (arith, (part_next image head r some (min (B - found.offset) n) q b).0)) (omega (arith, ap (index_at B) w))
 
           further : index_at B p < x → (k : ℕ) × Finds (pointer B image) N head (index_at B (size - 1)) x k
-          further y = behind (ltb (min (B - off) n) n) refl y
+          further y = behind (ltb (min (B - found.offset) n) n) refl y
 
   pub clean_reached : (p n : ℕ) → 0 < n → Ranged B N size p n (length image) → Clean p n → Run p n
   clean_reached p n some r c = reached_many n p n (omega arith) some r c
 
   -- so the test of the indexes is that of the run
-  pub tested_clean : (p n : ℕ) {top first last : ℕ} (w : Bool) → 0 < n → Ranged B N size p n (length image)
+  pub tested_clean : (p n : ℕ) {top first last : ℕ} (w : Result (Unit {0}) Refusal) → 0 < n → Ranged B N size p n (length image)
       → top ≡ index_at B (size - 1) → first ≡ index_at B p → last ≡ index_at B (p + (n - 1)) → Tested (pointer B image) N head top first last w
       → w ≡ clean (gather n (card_with B N image) (block_list head size) (range p n))
-  tested_clean p n {top} {first} {last} true some r e f g t =
+  tested_clean p n {top} {first} {last} (Ok u) some r e f g t =
       sym (reached_clean p n r (λ x l u. subst (λ (y : ℕ). (k : ℕ) × Finds (pointer B image) N head y x k) e (t.found refl x (omega arith) (omega arith))))
-  tested_clean p n {top} {first} {last} false some r e f g t = go (clean (gather n (card_with B N image) (block_list head size) (range p n))) refl
-    where
-      clash : {k off h : ℕ} → found.Damaged ≡ found.At k off h → ⊥
-      clash q = let z : ◌≡◌ {A = ℕ} 0 1 = cc in omega arith
-
-      go : (b : Bool) → clean (gather n (card_with B N image) (block_list head size) (range p n)) ≡ b → false ≡ b
-      go false q = refl
-      go true q =
-          let m = t.lost refl in
-          let k = clean_reached p n some r q m.0 (omega (arith, m.1.0)) (omega (arith, m.1.1)) in
-          absurd (clash (sym m.1.2 ∙ ap (λ (y : ℕ). seek (pointer B image) N head y m.0) e ∙ k.1.1))
+  tested_clean p n {top} {first} {last} (Err d) some r e f g t =
+      let m = t.lost d refl in
+      ap Err m.0
+      ∙ sym (not_clean image head p n r
+      (λ q.
+      let k = clean_reached p n some r q m.1.0 (omega (arith, m.1.1.0)) (omega (arith, m.1.1.1)) in
+      let both = sym m.1.1.2 ∙ ap (λ (y : ℕ). seek (pointer B image) N head y m.1.0) e ∙ k.1.1 in
+      let z : ◌≡◌ {A = ℕ} 0 1 = cc in
+      omega arith))

@@ -1,32 +1,34 @@
 // The blocks that hold the bytes of a read: every one is found before a byte is copied, and up to 1,024 are noted at a time.
 #![tactic(auto)]
 
-pub mod numbers;
-
 ghost use Rattle.std.specs.Prelude.{length};
 ghost use Rattle.card.specs.Card.{pointer};
 ghost use Rattle.finding.specs.inner.Runs.{Indexed, Tested, Answered, Notable, Held, Turning, Turned, RunSought};
 
-use crate::numbers::least;
+use layout::Refusal;
 
-// Whether the lookups of the indexes from `first` to `last` find their blocks.
-fn found_from(b: u32, n: u32, image: &[u8], head: u32, top: u32, first: u32, last: u32) -> bool
+// Whether the lookups of the indexes from `first` to `last` find their blocks; -84 where one of them meets it.
+fn found_from(
+    b: u32,
+    n: u32,
+    image: &[u8],
+    head: u32,
+    top: u32,
+    first: u32,
+    last: u32,
+) -> Result<(), Refusal>
     requires { Indexed b n top last (length image.now) }
     ensures { Tested (pointer b image.now) n head top first last result }
 {
     let mut blocks: [u32; 1024] = [0; 1024];
-    let mut i = first;
-    while i <= last {
-        let part = least(last - i + 1, 1024);
-        if !ctz::run::find_run(b, n, image, head, top, i, part, &mut blocks) {
-            return false;
-        }
-        i += part;
+    for i in (first..last + 1).step_by(1024) {
+        let part = (last - i + 1).min(1024);
+        ctz::run::find_run(b, n, image, head, top, i, part, &mut blocks)?;
     }
-    true
+    Ok(())
 }
 
-// Whether the lookup of every block finds it that holds one of the `count` bytes from `pos` on. Then the first 1,024 of them are noted.
+// Whether the lookup of every block finds it that holds one of the `count` bytes from `pos` on; -84 where one meets it. Then the first 1,024 of them are noted.
 pub fn found_all(
     b: u32,
     n: u32,
@@ -36,19 +38,17 @@ pub fn found_all(
     pos: u32,
     count: u32,
     blocks: &mut [u32; 1024],
-) -> bool
+) -> Result<(), Refusal>
     requires { RunSought b n size pos count (length image.now) (length blocks.old) }
     ensures { Answered image.now b n head size pos count result blocks.new }
 {
     let top = layout::index_at(b, size - 1);
     let first = layout::index_at(b, pos);
     let last = layout::index_at(b, pos + (count - 1));
-    let part = least(last - first + 1, 1024);
-    if !ctz::run::find_run(b, n, image, head, top, first, part, blocks) {
-        return false;
-    }
+    let part = (last - first + 1).min(1024);
+    ctz::run::find_run(b, n, image, head, top, first, part, blocks)?;
     if last - first < 1024 {
-        return true;
+        return Ok(());
     }
     found_from(b, n, image, head, top, first + 1024, last)
 }
@@ -67,8 +67,8 @@ fn note(
     requires { Notable image.now b n head top base last (length blocks.old) }
     ensures { Held (pointer b image.now) n head top base last blocks.new }
 {
-    let part = least(last - base + 1, 1024);
-    ctz::run::find_run(b, n, image, head, top, base, part, blocks);
+    let part = (last - base + 1).min(1024);
+    let _ = ctz::run::find_run(b, n, image, head, top, base, part, blocks);
 }
 
 // The index from which blocks are noted, for the block of index i to be one of them: the same, or i itself once they are used up.

@@ -4,13 +4,14 @@ use mathlib.Core.Bool.{true, false, ◌&&◌}
 use mathlib.Core.List.{List, [], ◌∷◌, ◌++◌}
 use Prim.Native.Nat.{ℕ, suc, ◌+◌, ◌-◌, ◌^◌, ◌≤◌, ◌<◌}
 use native.Mathlib.Omega.{arith}
+use Rattle.std.specs.Prelude.{Result, Ok, Err}
+use Rattle.layout.specs.declared.Refusal.{Refusal}
 use Rattle.layout.specs.Layout.{index_at, offset_at}
 use Rattle.layout.specs.inner.Served.{Served, block_list}
 use Rattle.layout.proofs.Served.{served, index_below}
 use Rattle.card.specs.Card.{pointer}
 use Rattle.card.specs.inner.Cards.{card_with}
 use Rattle.ctz.specs.declared.Found.{Found}
-use Rattle.ctz.specs.declared.Found.TheVariants as found
 use Rattle.ctz.specs.Lookup.{walk, walk_to}
 use Rattle.ctz.specs.inner.Forms.{pointers_with, target, stand}
 use Rattle.ctz.specs.inner.Bounds.{ListFacts}
@@ -24,10 +25,9 @@ use Rattle.old_list.specs.inner.Lookups.{looked_of, Behind, look_in}
 use Rattle.old_list.proofs.Index.{index_within, index_before, index_some}
 
 -- the offset that a lookup answers is not looked at
-look_placed : (off : ℕ) (f : Found) → look_of (placed off f) ≡ look_of f
-look_placed off (found.At k o h) = refl
-look_placed off found.Damaged = refl
-look_placed off found.Refused = refl
+look_placed : (off : ℕ) (f : Result Found Refusal) → look_of (placed off f) ≡ look_of f
+look_placed off (Ok found) = refl
+look_placed off (Err refusal) = refl
 
 -- two positions of one block are found alike
 pub look_same : (B N : ℕ) (e : Entry) (img : List ℕ) (p r : ℕ) → index_at B p ≡ index_at B r → look_in B N e img p ≡ look_in B N e img r
@@ -76,12 +76,11 @@ module _ {B : ℕ} (N : ℕ) (e : Entry) (img : List ℕ) {q first : ℕ} (h : S
 pub look_below : {B N : ℕ} (e : Entry) {len : ℕ} (img : List ℕ) (p k : ℕ) → ListFacts B N e.size len → p < e.size → look_in B N e img p ≡ Look.Found k → k < N
 look_below {B} {N} e img p k g l f = go (walk_to (card_with B N img) (block_list e.head e.size) p) refl f
   where
-    go : (x : Found) → walk_to (card_with B N img) (block_list e.head e.size) p ≡ x → look_of x ≡ Look.Found k → k < N
-    go (found.At j off hops) w f =
-        let i : j ≡ k = cc in
+    go : (x : Result Found Refusal) → walk_to (card_with B N img) (block_list e.head e.size) p ≡ x → look_of x ≡ Look.Found k → k < N
+    go (Ok found) w f =
+        let i : found.block ≡ k = cc in
         omega (arith, (found_tells img e.head (record { card = g.card; most = g.most; below = l }) w).below)
-    go found.Damaged w f = let z : ◌≡◌ {A = ℕ} 0 1 = cc in absurd (omega arith)
-    go found.Refused w f = let z : ◌≡◌ {A = ℕ} 0 1 = cc in absurd (omega arith)
+    go (Err refusal) w f = let z : ◌≡◌ {A = ℕ} 0 1 = cc in absurd (omega arith)
 
 -- what an answer of the code tells
 pub told_block : (x : Look) (k : ℕ) → looked_of x ≡ looked-as.Block k → x ≡ Look.Found k

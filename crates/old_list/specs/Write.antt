@@ -1,10 +1,10 @@
 -- A write of at least one byte (01, "Store calls"): what goes into its blocks, and where it looks before it allocates. Over any lookup in the old list.
-use Rattle.std.specs.Prelude.{Bool, true, false, List, [], ◌∷◌, ◌++◌, ℕ, zero, suc, ◌+◌, ◌-◌, min, max, ltb, length, replicate, take, drop}
+use Rattle.std.specs.Prelude.{Bool, true, false, Result, Ok, Err, List, [], ◌∷◌, ◌++◌, ℕ, zero, suc, ◌+◌, ◌-◌, min, max, ltb, length, replicate, take, drop}
+use Rattle.layout.specs.declared.Refusal.{Refusal}
 use Rattle.layout.specs.Numbers.{null_block}
 use Rattle.layout.specs.Layout.{BlockSize, Index, Position, index_at, offset_at, start}
 use Rattle.card.specs.Card.{block_of}
 use Rattle.ctz.specs.declared.Found as ctz
-use Rattle.ctz.specs.declared.Found.TheVariants as found
 use Rattle.files.specs.declared.Entry.{Entry}
 use Rattle.trials.specs.Trial.{Trial, Whole, Fault, Refused, ends, whole, more}
 use Rattle.trials.specs.Loop.{Plan, Candidate}
@@ -40,10 +40,9 @@ pub data Look : Type 0 where
   Lost : Look
 
 -- a lookup in a list, as a write asks for it
-abbrev pub look_of : ctz.Found → Look
-look_of (found.At k off hops) = Look.Found k
-look_of found.Damaged = Look.Lost
-look_of found.Refused = Look.Lost
+abbrev pub look_of : Result ctz.Found Refusal → Look
+look_of (Ok found) = Look.Found found.block
+look_of (Err refusal) = Look.Lost
 
 -- ---- what goes into a block
 

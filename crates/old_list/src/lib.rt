@@ -39,15 +39,9 @@ pub fn look(b: u32, n: u32, image: &[u8], e: Entry, p: u32) -> Looked
         }
         return Looked::Lost;
     }
-    let found = ctz::find_in(b, n, image, e.head, e.size, p);
-    match found {
-        ctz::Found::At {
-            block,
-            offset,
-            hops,
-        } => Looked::Block(block),
-        ctz::Found::Damaged => Looked::Lost,
-        ctz::Found::Refused => Looked::Lost,
+    match ctz::find_in(b, n, image, e.head, e.size, p) {
+        Ok(found) => Looked::Block(found.block),
+        Err(_) => Looked::Lost,
     }
 }
 

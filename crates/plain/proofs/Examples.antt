@@ -13,9 +13,8 @@ use Rattle.layout.specs.Layout.{pointers, capacity, start, index_at, offset_at}
 use Rattle.layout.specs.inner.Served.{block_list}
 use Rattle.card.specs.Card.{good_card, pointer}
 use Rattle.card.specs.inner.Cards.{card_with}
-use Rattle.ctz.specs.declared.Found.TheVariants.{At}
 use Rattle.ctz.specs.Lists.{down, SoundList}
-use Rattle.ctz.specs.Lookup.{walk, walk_to, lookup_of}
+use Rattle.ctz.specs.Lookup.{found_at, walk, walk_to, lookup_of}
 use Rattle.ctz.specs.Visits.{visit_of, visit, hand}
 use Rattle.audit.specs.declared.Fault.TheVariants.{NotBelow, Disagrees}
 use Rattle.audit.specs.Check.{falls, names, further, check_of}
@@ -59,10 +58,10 @@ unfolding visit_of visit hand pointer word_at index_at start capacity pointers c
 visits = (refl, refl)
 
 -- lookups: block, offset and hops; on a damaged list the walk is as long
-looked : (lookup_of (card_with 160 7 (card 1 1)) (block_list 2 630) 160 ≡ At 6 4 2)
-    × (lookup_of (card_with 160 7 (card 1 1)) (block_list 2 630) 624 ≡ At 2 12 0)
-    × (lookup_of (card_with 160 7 (card 1 1)) (block_list 2 630) 0 ≡ At 3 0 1)
-    × (lookup_of (card_with 160 7 (card 6 1)) (block_list 2 630) 400 ≡ At 6 92 1)
+looked : (lookup_of (card_with 160 7 (card 1 1)) (block_list 2 630) 160 ≡ found_at 6 4 2)
+    × (lookup_of (card_with 160 7 (card 1 1)) (block_list 2 630) 624 ≡ found_at 2 12 0)
+    × (lookup_of (card_with 160 7 (card 1 1)) (block_list 2 630) 0 ≡ found_at 3 0 1)
+    × (lookup_of (card_with 160 7 (card 6 1)) (block_list 2 630) 400 ≡ found_at 6 92 1)
 unfolding lookup_of good_card walk_to walk pointer word_at index_at offset_at start capacity pointers count_trailing_zeros count_leading_zeros card four
 looked = (refl, refl, refl, refl)
 

@@ -12,9 +12,8 @@ use Rattle.layout.proofs.Places.{index_mono, offset_inside}
 use Rattle.card.specs.Card.{pointer, block_of}
 use Rattle.card.specs.inner.Cards.{card_with}
 use Rattle.card.proofs.Cards.{block_inside}
-use Rattle.ctz.specs.declared.Found.TheVariants.{At}
 use Rattle.ctz.specs.Lists.{SoundList}
-use Rattle.ctz.specs.Lookup.{lookup_of}
+use Rattle.ctz.specs.Lookup.{found_at, lookup_of}
 use Rattle.ctz.proofs.Sounds.{at, over, sound}
 use Rattle.plain.specs.Bytes.{span, bytes}
 use Rattle.plain.specs.inner.Forms.{GoodList}
@@ -59,7 +58,7 @@ module _ {B N : ℕ} {image : List ℕ} {head size : ℕ} (g : GoodList B N imag
       bytes_at_lem p h ∙ block_byte image B (blk (index_at B p)) (offset_at B p) (offset_inside B p (in_block g p (omega arith)))
 
   -- byte p is what stands at the place that a lookup answers
-  pub byte_found : (p k o h : ℕ) → p < size → lookup_of (card_with B N image) (block_list head size) p ≡ At k o h
+  pub byte_found : (p k o h : ℕ) → p < size → lookup_of (card_with B N image) (block_list head size) p ≡ found_at k o h
       → get_or (bytes B image (block_list head size)) p 0 ≡ get_or image (k * B + o) 0
   byte_found p k o h l e =
       byte_image p l ∙ ap (λ (x : ℕ). get_or image (x * B + offset_at B p) 0) (lookup_block g s p k o h l e)
@@ -104,7 +103,7 @@ module _ {B N : ℕ} {image : List ℕ} {head size : ℕ} (g : GoodList B N imag
         ∙ sym (take_span byte 0 t size le)
 
     -- truncate takes the block of the last kept byte as head: both hold for the block that a lookup answers
-    pub shrink_found : (k o h : ℕ) → lookup_of (card_with B N image) (block_list head size) (t - 1) ≡ At k o h
+    pub shrink_found : (k o h : ℕ) → lookup_of (card_with B N image) (block_list head size) (t - 1) ≡ found_at k o h
         → SoundList (card_with B N image) (block_list k t) × (bytes B image (block_list k t) ≡ take t (bytes B image (block_list head size)))
     shrink_found k o h e =
         subst (λ (b : ℕ). SoundList (card_with B N image) (block_list b t) × (bytes B image (block_list b t) ≡ take t (bytes B image (block_list head size))))

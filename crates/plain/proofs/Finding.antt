@@ -11,10 +11,10 @@ use Rattle.hops.specs.inner.Ways.{way}
 use Rattle.hops.proofs.Bound.{bound_none, bound_one, bound}
 use Rattle.card.specs.Card.{pointer}
 use Rattle.card.specs.inner.Cards.{card_with}
-use Rattle.ctz.specs.declared.Found.TheVariants.{At}
 use Rattle.ctz.specs.Lists.{SoundList}
-use Rattle.ctz.specs.Lookup.{walk_to, lookup_of}
+use Rattle.ctz.specs.Lookup.{found_at, walk_to, lookup_of}
 use Rattle.ctz.specs.Visits.{visit_of}
+use Rattle.ctz.proofs.Walked.{found_parts}
 use Rattle.ctz.proofs.Lookups.{lookup_walks}
 use Rattle.ctz.proofs.Visiting.{visit_begins}
 use Rattle.ctz.proofs.Sounds.{at, over}
@@ -33,21 +33,21 @@ module _ {B N : ℕ} {image : List ℕ} {head size : ℕ} (g : GoodList B N imag
   blk i = at (pointer B image) head top i
 
   -- the walk ends at the block of the position's index and its offset, after the hops of the walk over indexes
-  pub walk_sound : (p : ℕ) → p < size → walk_to (card_with B N image) (block_list head size) p ≡ At (blk (index_at B p)) (offset_at B p) (hops (way top (index_at B p)))
+  pub walk_sound : (p : ℕ) → p < size → walk_to (card_with B N image) (block_list head size) p ≡ found_at (blk (index_at B p)) (offset_at B p) (hops (way top (index_at B p)))
   unfolding walk_to
   walk_sound p h = walk_finds (over (s.list (omega arith))) (top_small g (omega arith)) (offset_at B p) (index_at B p) (index_le B size p h)
 
   -- and that is what a lookup answers
-  pub lookup_sound : (p : ℕ) → p < size → lookup_of (card_with B N image) (block_list head size) p ≡ At (blk (index_at B p)) (offset_at B p) (hops (way top (index_at B p)))
+  pub lookup_sound : (p : ℕ) → p < size → lookup_of (card_with B N image) (block_list head size) p ≡ found_at (blk (index_at B p)) (offset_at B p) (hops (way top (index_at B p)))
   lookup_sound p h = sym (lookup_walks B N image head size p g.good g.fits h) ∙ walk_sound p h
 
   -- whatever block a lookup answers is that of the position
-  pub lookup_block : (p k o h : ℕ) → p < size → lookup_of (card_with B N image) (block_list head size) p ≡ At k o h → blk (index_at B p) ≡ k
-  lookup_block p k o h l e = let q = sym (lookup_sound p l) ∙ e in cc
+  pub lookup_block : (p k o h : ℕ) → p < size → lookup_of (card_with B N image) (block_list head size) p ≡ found_at k o h → blk (index_at B p) ≡ k
+  lookup_block p k o h l e = (found_parts (sym (lookup_sound p l) ∙ e)).0
 
   -- and so is its offset
-  pub lookup_offset : (p k o h : ℕ) → p < size → lookup_of (card_with B N image) (block_list head size) p ≡ At k o h → offset_at B p ≡ o
-  lookup_offset p k o h l e = let q = sym (lookup_sound p l) ∙ e in cc
+  pub lookup_offset : (p k o h : ℕ) → p < size → lookup_of (card_with B N image) (block_list head size) p ≡ found_at k o h → offset_at B p ≡ o
+  lookup_offset p k o h l e = (found_parts (sym (lookup_sound p l) ∙ e)).1
 
   -- DEMAND 3: the hops of a lookup are the length of the least chain of stored pointers, and few
   pub fewest : (p : ℕ) → p < size → Fewest (card_with B N image) (block_list head size) p

@@ -17,9 +17,8 @@ use Rattle.hops.specs.Walk.{hops}
 use Rattle.hops.specs.inner.Ways.{way}
 use Rattle.card.specs.Card.{good_card, pointer, block_of}
 use Rattle.card.specs.inner.Cards.{card_with}
-use Rattle.ctz.specs.declared.Found.TheVariants.{At}
 use Rattle.ctz.specs.Lists.{SoundList}
-use Rattle.ctz.specs.Lookup.{lookup_of}
+use Rattle.ctz.specs.Lookup.{found_at, lookup_of}
 use Rattle.ctz.specs.Visits.{visit_of}
 use Rattle.ctz.proofs.Lookups.{lookup_empty, lookup_past}
 use Rattle.ctz.proofs.Sounds.{at, over, sound}
@@ -94,7 +93,7 @@ module _ {image image' : List ℕ} {B head size : ℕ} (a : SameBlocks image ima
         go false e true q =
             let h = ltb-true p size q in
             lookup_sound (frame_good g) (frame_sound s) p h
-            ∙ ap (λ (k : ℕ). At k (offset_at B p) (hops (way top (index_at B p)))) (frame_at (omega arith) (index_at B p))
+            ∙ ap (λ (k : ℕ). found_at k (offset_at B p) (hops (way top (index_at B p)))) (frame_at (omega arith) (index_at B p))
             ∙ sym (lookup_sound g s p h)
 
     -- the same visit

@@ -14,15 +14,14 @@ use Rattle.hops.specs.inner.Ways.{way}
 use Rattle.hops.proofs.Greedy.{Best, pick_best}
 use Rattle.hops.proofs.Exact.{hops_here, hops_step, attained}
 use Rattle.hops.proofs.Route.{least_route, follow}
-use Rattle.ctz.specs.declared.Found.TheVariants.{At}
-use Rattle.ctz.specs.Lookup.{walk}
+use Rattle.ctz.specs.Lookup.{found_at, walk}
 use Rattle.ctz.specs.inner.Forms.{pointers_with, target, stand}
 use Rattle.ctz.proofs.Sounds.{SoundOver, at}
 use Rattle.plain.proofs.Walks.{at_top, agree_all}
 
 module _ (f : ℕ) (ptr : ℕ → ℕ → ℕ) (N off tgt cur k n : ℕ) (h : k < N) where
   -- at the target
-  walk_end : cur ≤ tgt → walk (suc f) (pointers_with N ptr) (target tgt off) (stand cur k n) ≡ At k off n
+  walk_end : cur ≤ tgt → walk (suc f) (pointers_with N ptr) (target tgt off) (stand cur k n) ≡ found_at k off n
   unfolding walk
   walk_end l = rw (walk, lt-ltb k N h, le-ltb tgt cur l)
 
@@ -38,14 +37,14 @@ module _ {ptr : ℕ → ℕ → ℕ} {N head top : ℕ} (s : SoundOver ptr N hea
 
   -- from any index on the way
   walk_found : (f off tgt cur n : ℕ) → tgt ≤ cur → cur ≤ top → cur - tgt < f
-      → walk f (pointers_with N ptr) (target tgt off) (stand cur (blk cur) n) ≡ At (blk tgt) off (n + hopping.hops (way cur tgt))
+      → walk f (pointers_with N ptr) (target tgt off) (stand cur (blk cur) n) ≡ found_at (blk tgt) off (n + hopping.hops (way cur tgt))
   walk_found zero off tgt cur n t c g = absurd (omega arith)
   walk_found (suc f) off tgt cur n t c g = go (ltb tgt cur) refl (walk_found f off tgt)
     where
       go : (b : Bool) → ltb tgt cur ≡ b
           → ((cur n : ℕ) → tgt ≤ cur → cur ≤ top → cur - tgt < f
-          → walk f (pointers_with N ptr) (target tgt off) (stand cur (blk cur) n) ≡ At (blk tgt) off (n + hopping.hops (way cur tgt)))
-          → walk (suc f) (pointers_with N ptr) (target tgt off) (stand cur (blk cur) n) ≡ At (blk tgt) off (n + hopping.hops (way cur tgt))
+          → walk f (pointers_with N ptr) (target tgt off) (stand cur (blk cur) n) ≡ found_at (blk tgt) off (n + hopping.hops (way cur tgt)))
+          → walk (suc f) (pointers_with N ptr) (target tgt off) (stand cur (blk cur) n) ≡ found_at (blk tgt) off (n + hopping.hops (way cur tgt))
       go true e ih =
           let l : tgt < cur = ltb-true tgt cur e in
           let b : Best tgt cur (jump (way cur tgt)) = pick_best cur tgt (omega arith) l in
@@ -57,19 +56,19 @@ module _ {ptr : ℕ → ℕ → ℕ} {N head top : ℕ} (s : SoundOver ptr N hea
           ∙ ap (λ (k : ℕ). walk f (pointers_with N ptr) (target tgt off) (stand (cur - 2 ^ jump (way cur tgt)) k (suc n)))
           (agree_all s cur (jump (way cur tgt)) c (omega arith) (min-le_right (hopping.log2 (cur - tgt)) (hopping.ctz cur)))
           ∙ ih (cur - 2 ^ jump (way cur tgt)) (suc n) (omega arith) (omega arith) (omega arith)
-          ∙ ap (At (blk tgt) off) q
+          ∙ ap (found_at (blk tgt) off) q
       go false e ih =
           let l = ltb-false tgt cur e in
           let c≡ : cur ≡ tgt = omega arith in
           let q : n ≡ n + hopping.hops (way cur tgt) = omega (arith, hops_here cur (omega arith), ap (λ (i : ℕ). hopping.hops (way cur i)) c≡) in
-          walk_end f ptr N off tgt cur (blk cur) n (s.below cur c) l ∙ ap (λ (i : ℕ). At (blk i) off n) c≡ ∙ ap (At (blk tgt) off) q
+          walk_end f ptr N off tgt cur (blk cur) n (s.below cur c) l ∙ ap (λ (i : ℕ). found_at (blk i) off n) c≡ ∙ ap (found_at (blk tgt) off) q
 
   -- the walk from the head ends at the target's block
-  pub walk_finds : (off tgt : ℕ) → tgt ≤ top → walk (suc top) (pointers_with N ptr) (target tgt off) (stand top head 0) ≡ At (blk tgt) off (hopping.hops (way top tgt))
+  pub walk_finds : (off tgt : ℕ) → tgt ≤ top → walk (suc top) (pointers_with N ptr) (target tgt off) (stand top head 0) ≡ found_at (blk tgt) off (hopping.hops (way top tgt))
   walk_finds off tgt t =
       let q : 0 + hopping.hops (way top tgt) ≡ hopping.hops (way top tgt) = omega arith in
       ap (λ (k : ℕ). walk (suc top) (pointers_with N ptr) (target tgt off) (stand top k 0)) (sym (at_top ptr head top))
-      ∙ walk_found (suc top) off tgt top 0 t (omega arith) (omega arith) ∙ ap (At (blk tgt) off) q
+      ∙ walk_found (suc top) off tgt top 0 t (omega arith) (omega arith) ∙ ap (found_at (blk tgt) off) q
 
   -- no chain of stored pointers from the head to that block is shorter
   pub least_stored : (tgt : ℕ) (r : Route ptr tgt (blk tgt) top head) → hopping.hops (way top tgt) ≤ route_length r

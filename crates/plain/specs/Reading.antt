@@ -1,9 +1,10 @@
 -- What read and stretch give of one list (01, "Store calls"), behind the tests of geometry, slices, table, file number and position.
-use Rattle.std.specs.Prelude.{true, false, List, [], ◌++◌, ℕ, zero, suc, ◌+◌, ◌-◌, ◌*◌, min, ltb, take, drop}
+use Rattle.std.specs.Prelude.{true, false, Result, Ok, Err, List, [], ◌++◌, ℕ, zero, suc, ◌+◌, ◌-◌, ◌*◌, min, ltb, take, drop}
+use Rattle.layout.specs.declared.Refusal.{Refusal}
+use Rattle.layout.specs.declared.Refusal.TheVariants as refusal
 use Rattle.layout.specs.Layout.{BlockSize, Position, BlockList}
 use Rattle.card.specs.Card.{Card}
 use Rattle.ctz.specs.declared.Found.{Found}
-use Rattle.ctz.specs.declared.Found.TheVariants as found
 use Rattle.ctz.specs.Lookup.{walk_to}
 
 -- a part of the image, by its place and length; or -84, -22
@@ -13,10 +14,10 @@ pub data Part : Type 0 where
   Refused : Part
 
 -- from where the position was found to the end of its block, or of the file, which has `rest` bytes from there on
-abbrev pub part_of : BlockSize → ℕ → Found → Part
-part_of B rest (found.At k off hops) = Given (k * B + off) (min (B - off) rest)
-part_of B rest found.Damaged = Part.Damaged
-part_of B rest found.Refused = Part.Refused
+abbrev pub part_of : BlockSize → ℕ → Result Found Refusal → Part
+part_of B rest (Ok found) = Given (found.block * B + found.offset) (min (B - found.offset) rest)
+part_of B rest (Err refusal.Damaged) = Part.Damaged
+part_of B rest (Err other) = Part.Refused
 
 -- A stretch: the bytes from a position to the end of its block or file; empty at or past the end. The empty part is at place 0.
 unfoldable pub stretch_in : Card → BlockList → Position → Part
@@ -51,11 +52,11 @@ gather (suc f) c l r =
     elim (ltb 0 r.length) [
       | false ↦ Bytes []
       | true ↦ elim (walk_to c l r.position) [
-        | found.At k off hops ↦
-            before (take (min (c.B - off) r.length) (drop (k * c.B + off) c.image))
-            (gather f c l (behind r (min (c.B - off) r.length)))
-        | found.Damaged ↦ Gathered.Damaged
-        | found.Refused ↦ Gathered.Refused
+        | Ok found ↦
+            before (take (min (c.B - found.offset) r.length) (drop (found.block * c.B + found.offset) c.image))
+            (gather f c l (behind r (min (c.B - found.offset) r.length)))
+        | Err refusal.Damaged ↦ Gathered.Damaged
+        | Err other ↦ Gathered.Refused
       ]
     ]
 

@@ -9,8 +9,6 @@ ghost use Rattle.reading.specs.Calls.{given, placed_of};
 
 use crate::{Placed, Reading};
 use copies::copy_found;
-use ctz::Found;
-use finding::numbers::{fitting, least, remaining};
 
 // Read: every block touched is looked up before a byte is copied.
 pub fn read_in(
@@ -26,14 +24,14 @@ pub fn read_in(
     ensures { record { answer = result; buffer = buffer.new }
         ≡ given buffer.old (read_in (card_with b n image.now) (block_list head size) (range pos (length buffer.old))) }
 {
-    let count = fitting(buffer.len(), remaining(size, pos));
+    let count = buffer.len().min(size.saturating_sub(pos) as usize) as u32;
     if count == 0 {
         return Reading::Bytes { length: 0 };
     }
-    if !copy_found(b, n, image, head, size, pos, count, buffer) {
-        return Reading::Damaged;
+    match copy_found(b, n, image, head, size, pos, count, buffer) {
+        Ok(()) => Reading::Bytes { length: count },
+        Err(_) => Reading::Damaged,
     }
-    Reading::Bytes { length: count }
 }
 
 // Stretch: from the place of a position to the end of its block or of the file.
@@ -47,17 +45,11 @@ pub fn place_in(b: u32, n: u32, image: &[u8], head: u32, size: u32, pos: u32) ->
             length: 0,
         };
     }
-    let found = ctz::find_in(b, n, image, head, size, pos);
-    match found {
-        Found::At {
-            block,
-            offset,
-            hops: _,
-        } => Placed::Part {
-            place: block * b + offset,
-            length: least(b - offset, size - pos),
+    match ctz::find_in(b, n, image, head, size, pos) {
+        Ok(found) => Placed::Part {
+            place: found.block * b + found.offset,
+            length: (b - found.offset).min(size - pos),
         },
-        Found::Damaged => Placed::Damaged,
-        Found::Refused => Placed::Refused,
+        Err(_) => Placed::Damaged,
     }
 }

@@ -40,11 +40,11 @@ unfolding index_equal
 index_is list at b p code f a r x y e t k q = q ∙ rw (k, t, index_equal, e, x, y)
 
 -- a lookup on a card, and the record of it
-pub lookup_is : (list : List ℕ) (card : ℕ) (g : Geometry) (image : List ℕ) (h s p : ℕ) (f : Found) → g ≡ geometry_of list card → image ≡ image_of list card
+pub lookup_is : (list : List ℕ) (card : ℕ) (g : Geometry) (image : List ℕ) (h s p : ℕ) (f : Result Found Refusal) → g ≡ geometry_of list card → image ≡ image_of list card
     → f ≡ lookup_of (card_with g.block_size g.block_count image) (block_list h s) p → f ≡ lookup_on list card h s p
 lookup_is list card g image h s p f x y e = e ∙ rw (x, y)
 
-pub find_is : (list : List ℕ) (at card h s p code : ℕ) (f : Found) (a : TidFind) (r : Bool) → card ≡ word_of list at 4 → h ≡ word_of list at 5 → s ≡ word_of list at 6 → p ≡ word_of list at 7
+pub find_is : (list : List ℕ) (at card h s p code : ℕ) (f : Result Found Refusal) (a : TidFind) (r : Bool) → card ≡ word_of list at 4 → h ≡ word_of list at 5 → s ≡ word_of list at 6 → p ≡ word_of list at 7
     → f ≡ lookup_on list card h s p → a ≡ found_told f
     → code ≡ bare_of a.code
     → r ≡ told_of list at code a.block a.offset a.hops

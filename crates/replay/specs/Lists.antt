@@ -31,7 +31,7 @@ abbrev pub found_equal : List ℕ → ℕ → TidFind → Bool
 found_equal list at a = told_of list at (bare_of a.code) a.block a.offset a.hops
 
 -- the lookup on a card
-abbrev pub lookup_on : List ℕ → ℕ → ℕ → ℕ → ℕ → Found
+abbrev pub lookup_on : List ℕ → ℕ → ℕ → ℕ → ℕ → Result Found Refusal
 lookup_on list card head size position =
     lookup_of (card_with (word_of list card 0) (word_of list card 1) (image_of list card)) (block_list head size) position
 

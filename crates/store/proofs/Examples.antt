@@ -14,8 +14,7 @@ use Rattle.layout.specs.inner.Served.{block_list}
 use Rattle.card.specs.Card.{pointer}
 use Rattle.card.specs.inner.Cards.{card_with}
 use Rattle.device.specs.Device.{stored, wiped}
-use Rattle.ctz.specs.declared.Found.TheVariants.{At}
-use Rattle.ctz.specs.Lookup.{walk, walk_to}
+use Rattle.ctz.specs.Lookup.{found_at, walk, walk_to}
 use Rattle.files.specs.declared.Entry.{Entry}
 use Rattle.files.specs.Table.{list_of}
 use Rattle.trials.specs.Steps.{done, series, programs}
@@ -68,7 +67,7 @@ unfolding writes block first_head write_by followed turn_of tried taken_by trial
 began = (refl, refl, refl, refl)
 
 -- Shrunk to 17 bytes the last byte is the first of block 1, to 16 the last of block 0, to 1 its first: the block that becomes the head.
-heads : (walk_to (card_with 16 6 card) (block_list 1 20) 16 ≡ At 1 4 0) × (walk_to (card_with 16 6 card) (block_list 1 20) 15 ≡ At 0 15 1) × (walk_to (card_with 16 6 card) (block_list 1 20) 0 ≡ At 0 0 1)
+heads : (walk_to (card_with 16 6 card) (block_list 1 20) 16 ≡ found_at 1 4 0) × (walk_to (card_with 16 6 card) (block_list 1 20) 15 ≡ found_at 0 15 1) × (walk_to (card_with 16 6 card) (block_list 1 20) 0 ≡ found_at 0 0 1)
 unfolding walk_to walk pointer word_at pointers capacity start index_at offset_at count_trailing_zeros count_leading_zeros
 heads = (refl, refl, refl)
 

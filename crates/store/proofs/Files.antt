@@ -9,8 +9,9 @@ use lib.ListN.{length}
 use Rattle.layout.specs.Numbers.{size_max, null_block}
 use Rattle.layout.specs.inner.Served.{block_list}
 use Rattle.card.specs.inner.Cards.{card_with}
+use Rattle.std.specs.Prelude.{Result, Ok, Err}
+use Rattle.layout.specs.declared.Refusal.{Refusal}
 use Rattle.ctz.specs.declared.Found.{Found}
-use Rattle.ctz.specs.declared.Found.TheVariants as found
 use Rattle.ctz.specs.Lookup.{walk_to}
 use Rattle.files.specs.declared.Table.{Table}
 use Rattle.files.specs.Table.{file}
@@ -97,30 +98,26 @@ module _ (B N : ℕ) (image : List ℕ) (w : Lookahead) (t : Table) (i size : �
       → stays outcome.Done w u ≡ stored_of (shrinks B N image w t i size)
   shrinks_empty z f = rw (shrinks_none z, f)
 
-  module _ (z : size ≡ 0 → ⊥) {x : Found} (g : x ≡ walk_to (card_with B N image) (block_list (file t i).head (file t i).size) (size - 1)) where
-    pub shrinks_found : (k off hops : ℕ) {u : Table} → x ≡ found.At k off hops → u ≡ with_list t i (record { head = k; size = size })
+  module _ (z : size ≡ 0 → ⊥) {x : Result Found Refusal} (g : x ≡ walk_to (card_with B N image) (block_list (file t i).head (file t i).size) (size - 1)) where
+    pub shrinks_found : {found : Found} {u : Table} → x ≡ Ok found → u ≡ with_list t i (record { head = found.block; size = size })
         → stays outcome.Done w u ≡ stored_of (shrinks B N image w t i size)
-    shrinks_found k off hops e f = rw (shrinks_some z, ← g, e, f)
+    shrinks_found e f = rw (shrinks_some z, ← g, e, f)
 
-    pub shrinks_damaged : x ≡ found.Damaged → record { answer = outcome.Damaged; window = w; table = t } ≡ stored_of (shrinks B N image w t i size)
+    pub shrinks_damaged : {d : Refusal} → x ≡ Err d → record { answer = outcome.Damaged; window = w; table = t } ≡ stored_of (shrinks B N image w t i size)
     shrinks_damaged e = rw (shrinks_some z, ← g, e)
-
-    pub shrinks_refused : x ≡ found.Refused → record { answer = outcome.Damaged; window = w; table = t } ≡ stored_of (shrinks B N image w t i size)
-    shrinks_refused e = rw (shrinks_some z, ← g, e)
 
   -- card and window stay as they were
   pub shrinks_keeps : ((shrinks B N image w t i size).state.image ≡ image) × ((shrinks B N image w t i size).state.window ≡ w)
   unfolding shrinks
   shrinks_keeps = go (eqb size 0) (walk_to (card_with B N image) (block_list (file t i).head (file t i).size) (size - 1))
     where
-      pick : Bool → Found → StoreOut
+      pick : Bool → Result Found Refusal → StoreOut
       pick b x = elim b [ true ↦ left outcome.Done w (with_list t i (record { head = null_block; size = 0 })) image | false ↦ shrunk t i size w image x ]
 
-      go : (b : Bool) (x : Found) → ((pick b x).state.image ≡ image) × ((pick b x).state.window ≡ w)
+      go : (b : Bool) (x : Result Found Refusal) → ((pick b x).state.image ≡ image) × ((pick b x).state.window ≡ w)
       go true x = (refl, refl)
-      go false (found.At k off hops) = (refl, refl)
-      go false found.Damaged = (refl, refl)
-      go false found.Refused = (refl, refl)
+      go false (Ok found) = (refl, refl)
+      go false (Err refusal) = (refl, refl)
 
 -- ---- truncate
 

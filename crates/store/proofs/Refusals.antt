@@ -13,8 +13,9 @@ use Rattle.layout.specs.declared.Refusal.TheVariants.{Missing}
 use Rattle.layout.specs.Numbers.{size_max, null_block}
 use Rattle.layout.specs.inner.Served.{block_list}
 use Rattle.card.specs.inner.Cards.{card_with}
+use Rattle.std.specs.Prelude.{Result, Ok, Err}
+use Rattle.layout.specs.declared.Refusal.{Refusal}
 use Rattle.ctz.specs.declared.Found.{Found}
-use Rattle.ctz.specs.declared.Found.TheVariants as found
 use Rattle.ctz.specs.Lookup.{walk_to}
 use Rattle.files.specs.declared.Table.{Table}
 use Rattle.files.specs.Table.{file, find_of}
@@ -66,12 +67,11 @@ module _ {w : Lookahead} {t : Table} {image : List ℕ} where
   unfolding shrinks
   shrinks_ends B N i size = go (eqb size 0) (walk_to (card_with B N image) (block_list _ _) _)
     where
-      go : (b : Bool) (x : Found)
+      go : (b : Bool) (x : Result Found Refusal)
           → Ends w t image (elim b [ true ↦ left outcome.Done w (with_list t i (record { head = null_block; size = 0 })) image | false ↦ shrunk t i size w image x ])
       go true x = done _ _ _ _ _
-      go false (found.At k off hops) = done _ _ _ _ _
-      go false found.Damaged = damaged _ _
-      go false found.Refused = damaged _ _
+      go false (Ok found) = done _ _ _ _ _
+      go false (Err refusal) = damaged _ _
 
 module _ (B N l : ℕ) (image health : List ℕ) (w : Lookahead) (t : Table) (number : ℕ) where
   module _ (p : ℕ) (src : List ℕ) where

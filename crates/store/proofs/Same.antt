@@ -10,8 +10,9 @@ use lib.ListN.{length, length-replicate}
 use Rattle.layout.specs.Numbers.{size_max}
 use Rattle.layout.specs.inner.Served.{block_list}
 use Rattle.card.specs.inner.Cards.{card_with}
+use Rattle.std.specs.Prelude.{Result, Ok, Err}
+use Rattle.layout.specs.declared.Refusal.{Refusal}
 use Rattle.ctz.specs.declared.Found as ctz
-use Rattle.ctz.specs.declared.Found.TheVariants as found
 use Rattle.ctz.specs.Lookup.{walk_to}
 use Rattle.files.specs.declared.Table.{Table}
 use Rattle.files.specs.Table.{file, list_of}
@@ -78,11 +79,10 @@ module _ (B N l : ℕ) (image health : List ℕ) (w : Lookahead) (t : Table) (i 
           shrinks_some B N image w t i (suc p) (λ z. omega arith)
           ∙ ap (λ (n : ℕ). shrunk t i (suc p) w image (walk_to (card_with B N image) (block_list (file t i).head (file t i).size) n)) d
 
-      by : (x : ctz.Found) → walk_to (card_with B N image) (block_list (file t i).head (file t i).size) p ≡ x
+      by : (x : Result ctz.Found Refusal) → walk_to (card_with B N image) (block_list (file t i).head (file t i).size) p ≡ x
           → written_of t i (write_out (cut_down (look_on (setting B N l health) (list_of (file t i)) image) (suc p)) image w) ≡ shrinks B N image w t i (suc p)
-      by (found.At k off hops) e = rw (shrunk_by, cut_down, e) refl
-      by found.Damaged e = rw (shrunk_by, cut_down, e) refl
-      by found.Refused e = rw (shrunk_by, cut_down, e) refl
+      by (Ok found) e = rw (shrunk_by, cut_down, e) refl
+      by (Err refusal) e = rw (shrunk_by, cut_down, e) refl
 
   -- a truncate of the file
   pub size_same : (number size : ℕ)

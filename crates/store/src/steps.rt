@@ -72,18 +72,12 @@ pub fn shrink(b: u32, n: u32, image: &[u8], w: Lookahead, t: Table, i: u32, size
         };
     }
     let e = t.files[i as usize];
-    let found = ctz::find_in(b, n, image, e.head, e.size, size - 1);
-    match found {
-        ctz::Found::At {
-            block,
-            offset,
-            hops,
-        } => Stored {
+    match ctz::find_in(b, n, image, e.head, e.size, size - 1) {
+        Ok(found) => Stored {
             answer: Outcome::Done,
             window: w,
-            table: files::change::put(t, i, size, block),
+            table: files::change::put(t, i, size, found.block),
         },
-        ctz::Found::Damaged => left(Outcome::Damaged, w, t),
-        ctz::Found::Refused => left(Outcome::Damaged, w, t),
+        Err(_) => left(Outcome::Damaged, w, t),
     }
 }

@@ -5,7 +5,6 @@ use Rattle.layout.specs.declared.Refusal.{Refusal}
 use Rattle.layout.specs.Refusals.{refusal_code}
 use Rattle.layout.specs.Numbers.{accepted, invalid, damaged_card}
 use Rattle.ctz.specs.declared.Found.{Found}
-use Rattle.ctz.specs.declared.Found.TheVariants as found
 use Rattle.ctz.specs.declared.visit.Visit.{Visit}
 use Rattle.ctz.specs.declared.visit.Step.{Step}
 use Rattle.audit.specs.declared.Fault.{Fault}
@@ -21,10 +20,9 @@ abbrev pub place_told : Result Place Refusal → TidIndex
 place_told (Ok p) = record { code = accepted; index = p.index; offset = p.offset }
 place_told (Err r) = record { code = refusal_code r; index = 0; offset = 0 }
 
-abbrev pub found_told : Found → TidFind
-found_told (found.At block offset hops) = record { code = accepted; block = block; offset = offset; hops = hops }
-found_told found.Damaged = record { code = damaged_card; block = 0; offset = 0; hops = 0 }
-found_told found.Refused = record { code = invalid; block = 0; offset = 0; hops = 0 }
+abbrev pub found_told : Result Found Refusal → TidFind
+found_told (Ok f) = record { code = accepted; block = f.block; offset = f.offset; hops = f.hops }
+found_told (Err r) = record { code = refusal_code r; block = 0; offset = 0; hops = 0 }
 
 -- kind 0 is a sound list, 1 to 4 are the faults, in the order of 01
 abbrev pub fault_told : Fault → TidCheck

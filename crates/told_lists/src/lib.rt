@@ -43,28 +43,18 @@ pub struct TidFind {
     pub hops: u32,
 }
 
-pub fn found_told(f: Found) -> TidFind
+pub fn found_told(f: Result<Found, Refusal>) -> TidFind
     ensures { result ≡ found_told f }
 {
     match f {
-        Found::At {
-            block,
-            offset,
-            hops,
-        } => TidFind {
+        Ok(found) => TidFind {
             code: 0,
-            block: block,
-            offset: offset,
-            hops: hops,
+            block: found.block,
+            offset: found.offset,
+            hops: found.hops,
         },
-        Found::Damaged => TidFind {
-            code: -84,
-            block: 0,
-            offset: 0,
-            hops: 0,
-        },
-        Found::Refused => TidFind {
-            code: -22,
+        Err(refusal) => TidFind {
+            code: refusal.code(),
             block: 0,
             offset: 0,
             hops: 0,

@@ -1,6 +1,7 @@
 -- What the functions that copy bytes ask of their callers, and what they leave.
-use Rattle.std.specs.Prelude.{◌≡◌, Bool, true, List, ℕ, ◌+◌, ◌*◌, ◌≤◌, ◌<◌, length}
+use Rattle.std.specs.Prelude.{◌≡◌, Result, Ok, List, ℕ, ◌+◌, ◌*◌, ◌≤◌, ◌<◌, length}
 use Rattle.std.proofs.lemmas.List.Edits.{sets}
+use Rattle.layout.specs.declared.Refusal.{Refusal}
 use Rattle.layout.specs.inner.Served.{block_list}
 use Rattle.card.specs.inner.Cards.{card_with}
 use Rattle.plain.specs.Reading.{gather, Gathered}
@@ -8,9 +9,9 @@ use Rattle.plain.specs.inner.Forms.{range}
 use Rattle.finding.specs.inner.Bounds.{Ranged}
 use Rattle.finding.specs.inner.Runs.{clean, got_bytes, Noted}
 
--- whether a run was copied, and the buffer behind it
+-- whether a run was copied, or why not, and the buffer behind it
 pub record Copied : Type 0 where
-  pub whole : Bool
+  pub whole : Result (Unit {0}) Refusal
   pub after : List ℕ
 
 unfoldable pub copied_of : List ℕ → Gathered → Copied
@@ -33,6 +34,6 @@ pub record Parted (B k off m to len room : ℕ) : Type 0 where
 pub record Cleared (image : List ℕ) (B N head size p n to room : ℕ) (blocks : List ℕ) : Type 0 where
   pub run : Ranged B N size p n (length image)
   pub some : 0 < n
-  pub found : clean (gather n (card_with B N image) (block_list head size) (range p n)) ≡ true
+  pub found : clean (gather n (card_with B N image) (block_list head size) (range p n)) ≡ Ok tt
   pub noted : Noted image B N head size p n blocks
   pub fits : to + n ≤ room

@@ -11,4 +11,4 @@ walk_to-requires c =
 pub returns : goal.returns
 returns c =
     c.walk_to.ensures
-    ∙ walk_is _ _ _ _ _ _ _ _ _ c.index_at-top.ensures c.index_at-tgt.ensures c.offset_at-off.ensures
+    ∙ walk_is _ _ _ _ _ _ _ _ _ c.index_at-top.ensures c.index_at-tgt.ensures c.offset_at-offset.ensures

@@ -17,8 +17,8 @@ returns-then-cur-tgt c = sym (c.hop.invariant.1 ∙ walk_at _ _ _ _ _ _ _ _ (ome
 pub skip-x-requires : goal.skip-x-requires
 skip-x-requires c = c.if-cur-tgt.false
 
-pub pointer-k-requires : goal.pointer-k-requires
-pointer-k-requires c =
+pub pointer-block-requires : goal.pointer-block-requires
+pointer-block-requires c =
     let l = c.hop in
     asked {i = l.cur} c.requires (omega arith) (omega arith)
     (omega (arith, c.skip-x.ensures, pick_stored l.cur c.args.tgt)) (omega arith)

@@ -1,4 +1,5 @@
 -- `found_all` answers whether every lookup of the run finds its block: those of the indexes from its first position's to its last one's. Assumes nothing.
+use Rattle.std.proofs.lemmas.Result.{err_from_is_err_and}
 use Prim.Native.Nat.{◌+◌, ◌-◌}
 use native.Mathlib.Nat.{min-le_left, min-le_right}
 use native.Mathlib.Omega.{arith}
@@ -21,15 +22,17 @@ find_run-requires c =
     let k = min-le_right (c.index_at-last.result - c.index_at-first.result + 1) 1024 in
     record {
       walks = l.walks;
-      inside = omega (arith, c.least-part.ensures, l.below, ordered c.requires.run c.requires.some c.index_at-first.ensures c.index_at-last.ensures);
-      fits = omega (arith, c.least-part.ensures, c.requires.long);
+      inside = omega (arith, c.min-part.ensures, l.below, ordered c.requires.run c.requires.some c.index_at-first.ensures c.index_at-last.ensures);
+      fits = omega (arith, c.min-part.ensures, c.requires.long);
       few = omega (arith, c.requires.long);
     }
 
-pub returns-then-not-find_run : goal.returns-then-not-find_run
-returns-then-not-find_run c =
-    answered_lost c.args.image.now c.requires c.index_at-top.ensures c.index_at-first.ensures c.index_at-last.ensures
-    c.least-part.ensures _ c.find_run.ensures c.if-not-find_run.true
+pub returns-in_err-find_run : goal.returns-in_err-find_run
+returns-in_err-find_run c =
+    let p = err_from_is_err_and c.from_residual.result c.from_residual.ensures.1 in
+    rw (p.1, p.2)
+    (answered_lost c.args.image.now c.requires c.index_at-top.ensures c.index_at-first.ensures c.index_at-last.ensures
+    c.min-part.ensures _ c.find_run.ensures c.in_err-find_run.was)
 
 pub overflow_sub-last-2 : goal.overflow_sub-last-2
 overflow_sub-last-2 c =
@@ -38,7 +41,7 @@ overflow_sub-last-2 c =
 pub returns-then-last-first-lt1024 : goal.returns-then-last-first-lt1024
 returns-then-last-first-lt1024 c =
     answered_short c.args.image.now c.requires c.index_at-top.ensures c.index_at-first.ensures c.index_at-last.ensures
-    c.least-part.ensures _ c.find_run.ensures c.if-not-find_run.false c.if-last-first-lt1024.true
+    c.min-part.ensures _ c.find_run.ensures c.in_ok-find_run.was c.if-last-first-lt1024.true
 
 pub found_from-requires : goal.found_from-requires
 found_from-requires c =
@@ -47,4 +50,4 @@ found_from-requires c =
 pub returns : goal.returns
 returns c =
     answered_on c.args.image.now c.requires c.index_at-top.ensures c.index_at-first.ensures c.index_at-last.ensures
-    c.least-part.ensures _ c.find_run.ensures _ c.if-not-find_run.false c.if-last-first-lt1024.false c.found_from.ensures
+    c.min-part.ensures _ c.find_run.ensures _ c.in_ok-find_run.was c.if-last-first-lt1024.false c.found_from.ensures

@@ -14,10 +14,10 @@ find_run-requires c =
     let r = min-le_right (c.args.last - c.args.base + 1) 1024 in
     record {
       walks = c.requires.list.walks;
-      inside = omega (arith, c.least-part.ensures, c.requires.inside, c.requires.list.below);
-      fits = omega (arith, c.least-part.ensures, c.requires.long);
+      inside = omega (arith, c.min-part.ensures, c.requires.inside, c.requires.list.below);
+      fits = omega (arith, c.min-part.ensures, c.requires.long);
       few = omega (arith, c.requires.long);
     }
 
 pub returns : goal.returns
-returns c = noted _ c.requires c.least-part.ensures c.find_run.ensures
+returns c = noted _ c.requires c.min-part.ensures c.find_run.ensures

@@ -1,21 +1,22 @@
 -- What a read knows of the blocks of a run of indexes.
-use Rattle.std.specs.Prelude.{◌≡◌, Bool, true, false, List, [], ℕ, ◌+◌, ◌-◌, ◌^◌, ◌≤◌, ◌<◌, length, get_or}
+use Rattle.std.specs.Prelude.{◌≡◌, Result, Ok, Err, List, [], ℕ, ◌+◌, ◌-◌, ◌^◌, ◌≤◌, ◌<◌, length, get_or}
+use Rattle.layout.specs.declared.Refusal.{Refusal}
+use Rattle.layout.specs.declared.Refusal.TheVariants.{Invalid, Damaged}
 use Rattle.layout.specs.Layout.{index_at}
 use Rattle.layout.specs.inner.Served.{block_list}
 use Rattle.card.specs.Card.{pointer}
 use Rattle.card.specs.inner.Cards.{card_with}
-use Rattle.ctz.specs.declared.Found.TheVariants.{Damaged}
 use Rattle.ctz.specs.inner.Bounds.{Walks}
 use Rattle.ctz.specs.inner.Runs.{seek, Finds}
 use Rattle.plain.specs.Reading.{Bytes, gather, Gathered}
 use Rattle.plain.specs.inner.Forms.{range}
 use Rattle.finding.specs.inner.Bounds.{Ranged}
 
--- whether no lookup met -84
-abbrev pub clean : Gathered → Bool
-clean (Bytes bytes) = true
-clean Gathered.Damaged = false
-clean Gathered.Refused = false
+-- whether every lookup found its block, or what one met
+abbrev pub clean : Gathered → Result (Unit {0}) Refusal
+clean (Bytes bytes) = Ok tt
+clean Gathered.Damaged = Err Damaged
+clean Gathered.Refused = Err Invalid
 
 abbrev pub got_bytes : Gathered → List ℕ
 got_bytes (Bytes bytes) = bytes
@@ -26,10 +27,14 @@ got_bytes Gathered.Refused = []
 abbrev pub Reached : (ℕ → ℕ → ℕ) → ℕ → ℕ → ℕ → ℕ → ℕ → Type 0
 Reached ptr N head top first last = (i : ℕ) → first ≤ i → i ≤ last → (k : ℕ) × Finds ptr N head top i k
 
+-- the lookup of one of them meets -84
+abbrev pub Missed : (ℕ → ℕ → ℕ) → ℕ → ℕ → ℕ → ℕ → ℕ → Type 0
+Missed ptr N head top first last = (i : ℕ) × ((first ≤ i) × (i ≤ last) × (seek ptr N head top i ≡ Err Damaged))
+
 -- Whether they do: or one of them meets -84.
-pub record Tested (ptr : ℕ → ℕ → ℕ) (N head top first last : ℕ) (whole : Bool) : Type 0 where
-  pub found : whole ≡ true → Reached ptr N head top first last
-  pub lost : whole ≡ false → (i : ℕ) × ((first ≤ i) × (i ≤ last) × (seek ptr N head top i ≡ Damaged))
+pub record Tested (ptr : ℕ → ℕ → ℕ) (N head top first last : ℕ) (whole : Result (Unit {0}) Refusal) : Type 0 where
+  pub found : whole ≡ Ok tt → Reached ptr N head top first last
+  pub lost : (e : Refusal) → whole ≡ Err e → (e ≡ Damaged) × Missed ptr N head top first last
 
 -- Indexes of a list that can be walked.
 pub record Indexed (B N top last len : ℕ) : Type 0 where
@@ -76,6 +81,6 @@ abbrev pub Noted : List ℕ → ℕ → ℕ → ℕ → ℕ → ℕ → ℕ → 
 Noted image B N head size p n blocks = Held (pointer B image) N head (index_at B (size - 1)) (index_at B p) (index_at B (p + (n - 1))) blocks
 
 -- Whether the lookups of all their blocks find them; then the first are noted.
-pub record Answered (image : List ℕ) (B N head size p n : ℕ) (whole : Bool) (blocks : List ℕ) : Type 0 where
+pub record Answered (image : List ℕ) (B N head size p n : ℕ) (whole : Result (Unit {0}) Refusal) (blocks : List ℕ) : Type 0 where
   pub is : whole ≡ clean (gather n (card_with B N image) (block_list head size) (range p n))
-  pub noted : whole ≡ true → Noted image B N head size p n blocks
+  pub noted : whole ≡ Ok tt → Noted image B N head size p n blocks

@@ -1,10 +1,10 @@
 -- A write or truncate of one file by nested cases, behind the tests of card, window and table: what the inner functions answer and leave.
-use Rattle.std.specs.Prelude.{true, false, List, ℕ, ◌+◌, ◌-◌, ltb, eqb, length}
+use Rattle.std.specs.Prelude.{true, false, Result, Ok, Err, List, ℕ, ◌+◌, ◌-◌, ltb, eqb, length}
+use Rattle.layout.specs.declared.Refusal.{Refusal}
 use Rattle.layout.specs.Numbers.{size_max, null_block}
 use Rattle.layout.specs.inner.Served.{block_list}
 use Rattle.card.specs.inner.Cards.{card_with}
 use Rattle.ctz.specs.declared.Found.{Found}
-use Rattle.ctz.specs.declared.Found.TheVariants as found
 use Rattle.ctz.specs.Lookup.{walk_to}
 use Rattle.files.specs.declared.Table.{Table}
 use Rattle.files.specs.Table.{file}
@@ -36,10 +36,9 @@ write_file B N l image health w t i p src =
     ]
 
 -- Shrinking takes the block of the last kept byte as head and leaves card and window as they were; to 0 gives the null head.
-abbrev pub shrunk : Table → ℕ → ℕ → Lookahead → List ℕ → Found → StoreOut
-shrunk t i size w image (found.At k off hops) = left outcome.Done w (change.with_list t i (record { head = k; size = size })) image
-shrunk t i size w image found.Damaged = left outcome.Damaged w t image
-shrunk t i size w image found.Refused = left outcome.Damaged w t image
+abbrev pub shrunk : Table → ℕ → ℕ → Lookahead → List ℕ → Result Found Refusal → StoreOut
+shrunk t i size w image (Ok found) = left outcome.Done w (change.with_list t i (record { head = found.block; size = size })) image
+shrunk t i size w image (Err refusal) = left outcome.Damaged w t image
 
 unfoldable pub shrinks : ℕ → ℕ → List ℕ → Lookahead → Table → ℕ → ℕ → StoreOut
 shrinks B N image w t i size =

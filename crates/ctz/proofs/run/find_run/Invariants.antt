@@ -1,13 +1,9 @@
 -- `ctz::run::find_run` meets its contract. The loop's invariant: the blocks of the indexes passed are known. Assumes nothing.
 use mathlib.Core.Path.{◌≡◌}
-use Prim.Native.Nat.{◌≤◌}
 use lib.ListN.{length}
 use Rattle.card.specs.Card.{pointer}
 use Rattle.ctz.specs.inner.Runs.{RunFound}
 use Rattle.ctz.proofs.run.find_run.Given as goal
 
 abbrev pub invariant-loop-j : goal.invariant-loop-j
-invariant-loop-j l = (l.j ≤ l.count) × (length l.blocks ≡ length l.initial.blocks) × RunFound (pointer l.b l.image) l.n l.head l.top l.first l.count l.blocks l.j
-
-abbrev pub decreases-loop-j : goal.decreases-loop-j
-decreases-loop-j l = l.j
+invariant-loop-j l = (length l.blocks ≡ length l.initial.blocks) × RunFound (pointer l.b l.image) l.n l.head l.top l.first l.count l.blocks l.j
