@@ -45,9 +45,9 @@ module _ (n l : ℕ) (seen : Seen) (w : Lookahead) (r : Windowed (Option ℕ)) (
     alloc_none k z = rw (← p, e, eq-eqb _ _ z)
 
     module _ (z : r.window.ckpoint ≡ 0 → ⊥) (s : Windowed (Result Unit Refusal)) (q : s ≡ scan_of (scope n l) seen r.window) where
-      pub alloc_damaged : (k : ℕ) (x : Refusal) → s.answer ≡ Err x → alloc_by (suc k) (scope n l) seen w ≡ record { answer = Err x; window = s.window }
+      pub alloc_refused : (k : ℕ) (x : Refusal) → s.answer ≡ Err x → alloc_by (suc k) (scope n l) seen w ≡ record { answer = Err x; window = s.window }
       unfolding alloc_by
-      alloc_damaged k x o = rw (← p, e, ne_eqb _ _ z, ← q, o)
+      alloc_refused k x o = rw (← p, e, ne_eqb _ _ z, ← q, o)
 
       module _ (o : s.answer ≡ Ok tt) where
         pub alloc_again : (k : ℕ) → alloc_by (suc k) (scope n l) seen w ≡ alloc_by k (scope n l) seen s.window
