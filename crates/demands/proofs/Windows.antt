@@ -37,21 +37,12 @@ use Rattle.demands.specs.Space.{good_block}
 took_block : (a : Answer) (v w : Lookahead) (k : ℕ) → took_of a v ≡ Block k w → (a ≡ Ok k) × (v ≡ w)
 took_block (Ok b) v w k e = (let q : b ≡ k = cc in ap Ok q, cc)
 took_block (Err refusal.NoSpace) v w k e = let z : ◌≡◌ {A = ℕ} 0 1 = cc in absurd (omega arith)
-took_block (Err refusal.Damaged) v w k e = let z : ◌≡◌ {A = ℕ} 0 1 = cc in absurd (omega arith)
-took_block (Err refusal.Invalid) v w k e = let z : ◌≡◌ {A = ℕ} 0 1 = cc in absurd (omega arith)
+took_block (Err r) v w k e = let z : ◌≡◌ {A = ℕ} 0 1 = cc in absurd (omega arith)
 
 took_none : (a : Answer) (v w : Lookahead) → took_of a v ≡ None w → (a ≡ Err refusal.NoSpace) × (v ≡ w)
 took_none (Ok b) v w e = let z : ◌≡◌ {A = ℕ} 0 1 = cc in absurd (omega arith)
 took_none (Err refusal.NoSpace) v w e = (refl, cc)
-took_none (Err refusal.Damaged) v w e = let z : ◌≡◌ {A = ℕ} 0 1 = cc in absurd (omega arith)
-took_none (Err refusal.Invalid) v w e = let z : ◌≡◌ {A = ℕ} 0 1 = cc in absurd (omega arith)
-
--- an allocation that is damaged or refused
-took_bad : (a : Answer) (v w : Lookahead) → took_of a v ≡ Bad w → (a ≡ Err refusal.Damaged) ⊎ (a ≡ Err refusal.Invalid)
-took_bad (Ok b) v w e = let z : ◌≡◌ {A = ℕ} 0 1 = cc in absurd (omega arith)
-took_bad (Err refusal.NoSpace) v w e = let z : ◌≡◌ {A = ℕ} 0 1 = cc in absurd (omega arith)
-took_bad (Err refusal.Damaged) v w e = inl refl
-took_bad (Err refusal.Invalid) v w e = inr refl
+took_none (Err r) v w e = let z : ◌≡◌ {A = ℕ} 0 1 = cc in absurd (omega arith)
 
 view_block : {R : Claim} {base n : ℕ} {ok : Bool} {c : ℕ} {q : Answer} {v : Lookahead} (k : ℕ) → View R base n ok c q v → q ≡ Ok k
     → Handed R base n c k v.ckpoint × On base n v
@@ -66,12 +57,10 @@ view_none (handed _ _) e = let z : ◌≡◌ {A = ℕ} 0 1 = cc in absurd (omega
 view_none (full c p o) e = (p, o)
 view_none (bad _ _ _) e = let z : ◌≡◌ {A = ℕ} 0 1 = cc in absurd (omega arith)
 
-view_bad : {R : Claim} {base n : ℕ} {ok : Bool} {c : ℕ} {q : Answer} {v : Lookahead} → View R base n ok c q v
-    → (q ≡ Err refusal.Damaged) ⊎ (q ≡ Err refusal.Invalid) → ok ≡ false
-view_bad (handed _ _) (inl e) = let z : ◌≡◌ {A = ℕ} 0 1 = cc in absurd (omega arith)
-view_bad (handed _ _) (inr e) = let z : ◌≡◌ {A = ℕ} 0 1 = cc in absurd (omega arith)
-view_bad (full _ _ _) (inl e) = let z : ◌≡◌ {A = ℕ} 0 1 = cc in absurd (omega arith)
-view_bad (full _ _ _) (inr e) = let z : ◌≡◌ {A = ℕ} 0 1 = cc in absurd (omega arith)
+-- an allocation that ends a write as damaged: a visit failed
+view_bad : {R : Claim} {base n : ℕ} {ok : Bool} {c : ℕ} {q : Answer} {v w : Lookahead} → View R base n ok c q v → took_of q v ≡ Bad w → ok ≡ false
+view_bad (handed _ _) e = let z : ◌≡◌ {A = ℕ} 0 1 = cc in absurd (omega arith)
+view_bad (full _ _ _) e = let z : ◌≡◌ {A = ℕ} 0 1 = cc in absurd (omega arith)
 view_bad (bad f _ _) e = f
 
 -- ---- membership
@@ -154,7 +143,7 @@ module _ (B n l : ℕ) (listed : List ℕ) (t : Table) (z : GoodScope n l) (img�
       never : (w w' : Lookahead) (out img : List ℕ) → InCall B n l listed img₀ base w out img → window_alloc B n l t w img ≡ Bad w' → ⊥
       never w w' out img o e =
           no_both (see B n t img).ok (told img o.card o.stays).ok
-          (view_bad (result w out img o).view (took_bad (alloc_of (scope n l) (see B n t img) w).answer (alloc_of (scope n l) (see B n t img) w).window w' (took B n l t w img _ e)))
+          (view_bad (result w out img o).view (took B n l t w img _ e))
 
 -- ---- the count, from any window
 
