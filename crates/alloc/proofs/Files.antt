@@ -4,6 +4,8 @@ use mathlib.Core.Bool.{true, false}
 use mathlib.Core.List.{List, [], ◌∷◌}
 use Prim.Native.Nat.{ℕ, ◌-◌, ◌<◌}
 use native.Mathlib.Omega.{arith}
+use Rattle.std.specs.Prelude.{Ok, Err}
+use Rattle.layout.specs.declared.Refusal.TheVariants.{Damaged}
 use Rattle.layout.specs.Layout.{index_at}
 use Rattle.layout.specs.inner.Served.{block_list}
 use Rattle.card.specs.Card.{pointer}
@@ -12,7 +14,7 @@ use Rattle.ctz.specs.Visits.{Visited, visit_of}
 use Rattle.ctz.specs.inner.Held.{visit_at, hand_on}
 use Rattle.ctz.proofs.Visiting.{visit_from, visit_begins, visit_empty}
 use Rattle.files.specs.declared.Entry.{Entry}
-use Rattle.window.specs.Scan.{mark_map, mark_all}
+use Rattle.window.specs.Scan.{mark_map, mark_all, visit_answer}
 use Rattle.window.specs.inner.Facts.{MarkAsked, window_on}
 use Rattle.alloc.specs.Visits.{seen_from}
 use Rattle.alloc.specs.inner.Facts.{FileAsked, FileMarked}
@@ -38,23 +40,23 @@ module _ {start size N : ℕ} {before : List ℕ} {whole : Visited} {now : List 
 
   -- .. or ends, with the last block or with -84
   pub goes_last : {after : List ℕ} {k : ℕ} → rest ≡ record { handed = k ∷ []; clean = true } → after ≡ mark_map N (window_on start size now) k
-      → FileMarked start size N (seen_from whole) before after true
+      → FileMarked start size N (seen_from whole) before after (Ok tt)
   unfolding mark_all
   goes_last e m = record {
     marks = m ∙ sym (g.marks ∙ ap (λ (v : Visited). mark_all N (window_on start size now) v.handed) e);
-    ends = sym (g.ends ∙ ap (λ (v : Visited). v.clean) e);
+    ends = ap visit_answer (sym (g.ends ∙ ap (λ (v : Visited). v.clean) e));
   }
 
-  pub goes_wrong : rest ≡ record { handed = []; clean = false } → FileMarked start size N (seen_from whole) before now false
+  pub goes_wrong : rest ≡ record { handed = []; clean = false } → FileMarked start size N (seen_from whole) before now (Err Damaged)
   unfolding mark_all
   goes_wrong e = record {
     marks = sym (g.marks ∙ ap (λ (v : Visited). mark_all N (window_on start size now) v.handed) e);
-    ends = sym (g.ends ∙ ap (λ (v : Visited). v.clean) e);
+    ends = ap visit_answer (sym (g.ends ∙ ap (λ (v : Visited). v.clean) e));
   }
 
 module _ (start size B N : ℕ) (image : List ℕ) (before : List ℕ) (head bytes : ℕ) where
   -- an empty file has no block
-  pub no_block : bytes ≡ 0 → FileMarked start size N (seen_from (visit_of (card_with B N image) (block_list head bytes))) before before true
+  pub no_block : bytes ≡ 0 → FileMarked start size N (seen_from (visit_of (card_with B N image) (block_list head bytes))) before before (Ok tt)
   unfolding mark_all
   no_block z = rw (visit_empty B N image head bytes z) (record { marks = refl; ends = refl })
 

@@ -6,7 +6,7 @@ use Prim.Native.Nat.{ℕ, zero, suc, ◌-◌, ◌<◌}
 use native.Mathlib.Omega.{arith}
 use borrow.Author.Tests.{ltb-true, eqb-true, eqb-false}
 use lib.Dec.{ltb, eqb}
-use Rattle.std.specs.Prelude.{Option, None}
+use Rattle.std.specs.Prelude.{Option, None, Ok}
 use Rattle.span.specs.Members.{has}
 use Rattle.layout.specs.Layout.{index_at}
 use Rattle.card.specs.Card.{pointer}
@@ -18,7 +18,6 @@ use Rattle.files.specs.declared.Entry.{Entry}
 use Rattle.files.specs.declared.Table.{Table}
 use Rattle.files.specs.Table.{held}
 use Rattle.window.specs.declared.Lookahead.{Lookahead}
-use Rattle.window.specs.declared.Answer.TheVariants.{Block}
 use Rattle.window.specs.Allocate.{alloc_of}
 use Rattle.window.specs.inner.Facts.{scope}
 use Rattle.windows.proofs.Views.{Tells, Lists, CleanWindow, Below}
@@ -76,5 +75,5 @@ table_lists B N image t h = lists N (visits_of (card_with B N image) (held t)) (
 
 -- THEOREM. The block that `alloc` hands out on a clean window is one of the card, and no file of the table has it.
 pub alloc_unlisted : (B N l len : ℕ) (image : List ℕ) (t : Table) (w : Lookahead) {b : ℕ} → Ready B N l len t w → CleanWindow N (listed_in (card_with B N image) t) w
-    → (alloc_of (scope N l) (seen_in (card_with B N image) t) w).answer ≡ Block b → (b < N) × (has (listed_in (card_with B N image) t) b ≡ false)
+    → (alloc_of (scope N l) (seen_in (card_with B N image) t) w).answer ≡ Ok b → (b < N) × (has (listed_in (card_with B N image) t) b ≡ false)
 alloc_unlisted B N l len image t w r c e = handed_out r.sizes r.window c (table_tells B N image t) e

@@ -1,17 +1,21 @@
 -- An allocation, search by search: what is left of it from the window as it stands. Assumes nothing.
-use mathlib.Core.Path.{◌≡◌, ap, sym, ◌∙◌}
-use mathlib.Core.Bool.{true, false}
+use mathlib.Core.Path.{◌≡◌, refl, ap, sym, ◌∙◌}
 use Prim.Native.Nat.{ℕ, zero, suc, ◌+◌, ◌≤◌, ◌<◌}
 use native.Mathlib.Omega.{arith}
+use Rattle.std.specs.Prelude.{Option, Some, None, Result, Ok, Err}
+use Rattle.layout.specs.declared.Refusal.{Refusal}
+use Rattle.layout.specs.declared.Refusal.TheVariants.{NoSpace}
 use Rattle.window.specs.declared.Lookahead.{Lookahead}
-use Rattle.window.specs.declared.Got.TheVariants as got
-use Rattle.window.specs.declared.Taken.{Taken}
-use Rattle.window.specs.declared.Scanned.{Scanned}
-use Rattle.window.specs.declared.Answer.TheVariants.{Block, NoSpace, Damaged}
+use Rattle.window.specs.declared.Windowed.{Windowed}
 use Rattle.window.specs.Allocate.{take_of, alloc_by, alloc_of}
 use Rattle.window.specs.Scan.{Seen, scan_of}
 use Rattle.window.specs.inner.Facts.{ValidWindow, GoodScope, scope}
-use Rattle.window.proofs.Turns.{left, alloc_block, alloc_none, alloc_damaged, alloc_again, again_valid, again_less}
+use Rattle.window.proofs.Turns.{left, alloc_block, alloc_none, alloc_refused, alloc_again, again_valid, again_less}
+
+-- a search that used the window up at count 0 ends the allocation
+pub ends_at_zero : (n l : ℕ) (seen : Seen) (k : ℕ) (v : Lookahead) → (take_of n v).answer ≡ None → (take_of n v).window.ckpoint ≡ 0
+    → alloc_by (suc k) (scope n l) seen v ≡ record { answer = Err NoSpace; window = (take_of n v).window }
+ends_at_zero n l seen k v e z = alloc_none n l seen v (take_of n v) refl e k z
 
 module _ (n l : ℕ) (seen : Seen) (v₀ : Lookahead) where
   -- the allocation from the window v₀ comes to that from the window v, with `spare` searches more than one
@@ -35,19 +39,16 @@ module _ (n l : ℕ) (seen : Seen) (v₀ : Lookahead) where
   one_less v zero g a b s e = absurd (omega arith)
   one_less v (suc k) g a b s e = record { spare = k; valid = g; enough = omega arith; rest = sym (s (suc k)) ∙ e }
 
-  module _ {v : Lookahead} (a : Allocating v) {r : Taken} (p : r ≡ take_of n v) where
-    pub answers_block : {b : ℕ} → r.answer ≡ got.Block b → record { answer = Block b; window = r.window } ≡ alloc_of (scope n l) seen v₀
+  module _ {v : Lookahead} (a : Allocating v) {r : Windowed (Option ℕ)} (p : r ≡ take_of n v) where
+    pub answers_block : {b : ℕ} → r.answer ≡ Some b → record { answer = Ok b; window = r.window } ≡ alloc_of (scope n l) seen v₀
     answers_block e = sym (alloc_block n l seen v r p a.spare _ e) ∙ a.rest
 
-    module _ (e : r.answer ≡ got.Empty) where
-      pub answers_none : r.window.ckpoint ≡ 0 → record { answer = NoSpace; window = r.window } ≡ alloc_of (scope n l) seen v₀
-      answers_none z = sym (alloc_none n l seen v r p e a.spare z) ∙ a.rest
+    module _ (e : r.answer ≡ None) where
+      module _ (z : r.window.ckpoint ≡ 0 → ⊥) {s : Windowed (Result Unit Refusal)} (q : s ≡ scan_of (scope n l) seen r.window) where
+        pub answers_refused : (x : Refusal) → s.answer ≡ Err x → record { answer = Err x; window = s.window } ≡ alloc_of (scope n l) seen v₀
+        answers_refused x o = sym (alloc_refused n l seen v r p e z s q a.spare x o) ∙ a.rest
 
-      module _ (z : r.window.ckpoint ≡ 0 → ⊥) {s : Scanned} (q : s ≡ scan_of (scope n l) seen r.window) where
-        pub answers_damaged : s.ok ≡ false → record { answer = Damaged; window = s.window } ≡ alloc_of (scope n l) seen v₀
-        answers_damaged o = sym (alloc_damaged n l seen v r p e z s q a.spare o) ∙ a.rest
-
-        module _ (o : s.ok ≡ true) (h : GoodScope n l) where
+        module _ (o : s.answer ≡ Ok tt) (h : GoodScope n l) where
           pub less_left : left s.window < left v
           less_left = again_less n l seen v r p e z s q o a.valid h
 

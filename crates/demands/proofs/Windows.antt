@@ -7,14 +7,14 @@ use Prim.Native.Nat.{ℕ, ◌+◌, ◌-◌, ◌%◌, ◌≤◌, ◌<◌}
 use native.Mathlib.Nat.{mod-lt}
 use native.Mathlib.Omega.{arith}
 use lib.ListN.{length}
+use Rattle.layout.specs.declared.Refusal.TheVariants as refusal
 use Rattle.span.specs.Members.{has}
 use Rattle.card.specs.inner.Cards.{CardFacts, card_with}
 use Rattle.health.specs.Health.{refuses_erase, refuses_program}
 use Rattle.files.specs.declared.Table.{Table}
+use Rattle.std.specs.Prelude.{Ok, Err}
 use Rattle.window.specs.declared.Lookahead.{Lookahead}
-use Rattle.window.specs.declared.Answer.{Answer}
-use Rattle.window.specs.declared.Answer.TheVariants as answer
-use Rattle.window.specs.Allocate.{alloc_of}
+use Rattle.window.specs.Allocate.{alloc_of, Answer}
 use Rattle.window.specs.Scan.{Seen}
 use Rattle.window.specs.inner.Facts.{ValidWindow, GoodScope, scope}
 use Rattle.window.proofs.Cases.{no_both}
@@ -34,44 +34,33 @@ use Rattle.demands.specs.Space.{good_block}
 
 -- ---- what an answer tells
 
-took_block : (a : Answer) (v w : Lookahead) (k : ℕ) → took_of a v ≡ Block k w → (a ≡ answer.Block k) × (v ≡ w)
-took_block (answer.Block b) v w k e = (let q : b ≡ k = cc in ap answer.Block q, cc)
-took_block answer.NoSpace v w k e = let z : ◌≡◌ {A = ℕ} 0 1 = cc in absurd (omega arith)
-took_block answer.Damaged v w k e = let z : ◌≡◌ {A = ℕ} 0 1 = cc in absurd (omega arith)
-took_block answer.Refused v w k e = let z : ◌≡◌ {A = ℕ} 0 1 = cc in absurd (omega arith)
+took_block : (a : Answer) (v w : Lookahead) (k : ℕ) → took_of a v ≡ Block k w → (a ≡ Ok k) × (v ≡ w)
+took_block (Ok b) v w k e = (let q : b ≡ k = cc in ap Ok q, cc)
+took_block (Err refusal.NoSpace) v w k e = let z : ◌≡◌ {A = ℕ} 0 1 = cc in absurd (omega arith)
+took_block (Err r) v w k e = let z : ◌≡◌ {A = ℕ} 0 1 = cc in absurd (omega arith)
 
-took_none : (a : Answer) (v w : Lookahead) → took_of a v ≡ None w → (a ≡ answer.NoSpace) × (v ≡ w)
-took_none (answer.Block b) v w e = let z : ◌≡◌ {A = ℕ} 0 1 = cc in absurd (omega arith)
-took_none answer.NoSpace v w e = (refl, cc)
-took_none answer.Damaged v w e = let z : ◌≡◌ {A = ℕ} 0 1 = cc in absurd (omega arith)
-took_none answer.Refused v w e = let z : ◌≡◌ {A = ℕ} 0 1 = cc in absurd (omega arith)
+took_none : (a : Answer) (v w : Lookahead) → took_of a v ≡ None w → (a ≡ Err refusal.NoSpace) × (v ≡ w)
+took_none (Ok b) v w e = let z : ◌≡◌ {A = ℕ} 0 1 = cc in absurd (omega arith)
+took_none (Err refusal.NoSpace) v w e = (refl, cc)
+took_none (Err r) v w e = let z : ◌≡◌ {A = ℕ} 0 1 = cc in absurd (omega arith)
 
--- an allocation that is damaged or refused
-took_bad : (a : Answer) (v w : Lookahead) → took_of a v ≡ Bad w → (a ≡ answer.Damaged) ⊎ (a ≡ answer.Refused)
-took_bad (answer.Block b) v w e = let z : ◌≡◌ {A = ℕ} 0 1 = cc in absurd (omega arith)
-took_bad answer.NoSpace v w e = let z : ◌≡◌ {A = ℕ} 0 1 = cc in absurd (omega arith)
-took_bad answer.Damaged v w e = inl refl
-took_bad answer.Refused v w e = inr refl
-
-view_block : {R : Claim} {base n : ℕ} {ok : Bool} {c : ℕ} {q : Answer} {v : Lookahead} (k : ℕ) → View R base n ok c q v → q ≡ answer.Block k
+view_block : {R : Claim} {base n : ℕ} {ok : Bool} {c : ℕ} {q : Answer} {v : Lookahead} (k : ℕ) → View R base n ok c q v → q ≡ Ok k
     → Handed R base n c k v.ckpoint × On base n v
 view_block {R} {base} {n} {ok} {c} {v = v} k (handed {b = b} h o) e =
     let q : b ≡ k = cc in (subst (λ (x : ℕ). Handed R base n c x v.ckpoint) q h, o)
 view_block k (full _ _ _) e = let z : ◌≡◌ {A = ℕ} 0 1 = cc in absurd (omega arith)
 view_block k (bad _ _ _) e = let z : ◌≡◌ {A = ℕ} 0 1 = cc in absurd (omega arith)
 
-view_none : {R : Claim} {base n : ℕ} {ok : Bool} {c : ℕ} {q : Answer} {v : Lookahead} → View R base n ok c q v → q ≡ answer.NoSpace
+view_none : {R : Claim} {base n : ℕ} {ok : Bool} {c : ℕ} {q : Answer} {v : Lookahead} → View R base n ok c q v → q ≡ Err refusal.NoSpace
     → ((k : ℕ) → n - c ≤ k → k < n → R ((base + k) % n) true) × On base n v
 view_none (handed _ _) e = let z : ◌≡◌ {A = ℕ} 0 1 = cc in absurd (omega arith)
 view_none (full c p o) e = (p, o)
 view_none (bad _ _ _) e = let z : ◌≡◌ {A = ℕ} 0 1 = cc in absurd (omega arith)
 
-view_bad : {R : Claim} {base n : ℕ} {ok : Bool} {c : ℕ} {q : Answer} {v : Lookahead} → View R base n ok c q v
-    → (q ≡ answer.Damaged) ⊎ (q ≡ answer.Refused) → ok ≡ false
-view_bad (handed _ _) (inl e) = let z : ◌≡◌ {A = ℕ} 0 1 = cc in absurd (omega arith)
-view_bad (handed _ _) (inr e) = let z : ◌≡◌ {A = ℕ} 0 1 = cc in absurd (omega arith)
-view_bad (full _ _ _) (inl e) = let z : ◌≡◌ {A = ℕ} 0 1 = cc in absurd (omega arith)
-view_bad (full _ _ _) (inr e) = let z : ◌≡◌ {A = ℕ} 0 1 = cc in absurd (omega arith)
+-- an allocation that ends a write as damaged: a visit failed
+view_bad : {R : Claim} {base n : ℕ} {ok : Bool} {c : ℕ} {q : Answer} {v w : Lookahead} → View R base n ok c q v → took_of q v ≡ Bad w → ok ≡ false
+view_bad (handed _ _) e = let z : ◌≡◌ {A = ℕ} 0 1 = cc in absurd (omega arith)
+view_bad (full _ _ _) e = let z : ◌≡◌ {A = ℕ} 0 1 = cc in absurd (omega arith)
 view_bad (bad f _ _) e = f
 
 -- ---- membership
@@ -154,7 +143,7 @@ module _ (B n l : ℕ) (listed : List ℕ) (t : Table) (z : GoodScope n l) (img�
       never : (w w' : Lookahead) (out img : List ℕ) → InCall B n l listed img₀ base w out img → window_alloc B n l t w img ≡ Bad w' → ⊥
       never w w' out img o e =
           no_both (see B n t img).ok (told img o.card o.stays).ok
-          (view_bad (result w out img o).view (took_bad (alloc_of (scope n l) (see B n t img) w).answer (alloc_of (scope n l) (see B n t img) w).window w' (took B n l t w img _ e)))
+          (view_bad (result w out img o).view (took B n l t w img _ e))
 
 -- ---- the count, from any window
 

@@ -5,15 +5,13 @@ use mathlib.Core.List.{List}
 use Prim.Native.Nat.{ℕ, zero, suc, ◌+◌, ◌%◌, ◌≤◌, ◌<◌}
 use native.Mathlib.Nat.{mod-lt}
 use native.Mathlib.Omega.{arith}
+use Rattle.layout.specs.declared.Refusal.TheVariants as refusal
 use Rattle.card.specs.inner.Cards.{card_with}
 use Rattle.files.specs.declared.Table.{Table}
+use Rattle.std.specs.declared.option.Option.TheVariants as option
+use Rattle.std.specs.Prelude.{Ok, Err, Option, Some}
 use Rattle.window.specs.declared.Lookahead.{Lookahead}
-use Rattle.window.specs.declared.Got.{Got}
-use Rattle.window.specs.declared.Got.TheVariants as got
-use Rattle.window.specs.declared.Answer.{Answer}
-use Rattle.window.specs.declared.Answer.TheVariants as answer
-use Rattle.window.specs.declared.Allocated.{Allocated}
-use Rattle.window.specs.Allocate.{free_from, take_case, take_of, on_scan, on_got, used_up, alloc_by, alloc_of}
+use Rattle.window.specs.Allocate.{free_from, take_case, take_of, on_scan, on_got, used_up, alloc_by, alloc_of, Answer, Allocated}
 use Rattle.window.specs.Scan.{Seen, cleared, mark_on, scan_case, scan_of}
 use Rattle.window.specs.inner.Facts.{ValidWindow, scope}
 use Rattle.window.proofs.Cases.{ltb_cases, eqb_cases}
@@ -21,39 +19,41 @@ use Rattle.window.proofs.Search.{free_stops}
 use Rattle.window.proofs.Kept.{cleared_valid, map_valid, dropped_valid, take_valid, take_empty}
 use Rattle.alloc.specs.Visits.{seen_in}
 use Rattle.trials.specs.Loop.{Block, None, Bad}
+use Rattle.layout.specs.declared.Refusal.{Refusal}
+use Rattle.grow.specs.Extend.{took_of}
 use Rattle.grow.specs.inner.Extend.{window_alloc}
 
 -- an allocation from that count
 pub record Outcome (n l count : ℕ) (a : Allocated) : Type 0 where
   pub valid : ValidWindow a.window n l
-  pub below : (k : ℕ) → a.answer ≡ answer.Block k → k < n
-  pub falls : (k : ℕ) → a.answer ≡ answer.Block k → a.window.ckpoint < count
+  pub below : (k : ℕ) → a.answer ≡ Ok k → k < n
+  pub falls : (k : ℕ) → a.answer ≡ Ok k → a.window.ckpoint < count
 
 -- one that hands out nothing
-not_block : (k : ℕ) → ◌≡◌ {A = Answer} answer.NoSpace (answer.Block k) → ⊥
+not_block : (k : ℕ) → ◌≡◌ {A = Answer} (Err refusal.NoSpace) (Ok k) → ⊥
 not_block k e = let z : ◌≡◌ {A = ℕ} 0 1 = cc in omega arith
 
-damaged_block : (k : ℕ) → ◌≡◌ {A = Answer} answer.Damaged (answer.Block k) → ⊥
+damaged_block : (k : ℕ) → ◌≡◌ {A = Answer} (Err refusal.Damaged) (Ok k) → ⊥
 damaged_block k e = let z : ◌≡◌ {A = ℕ} 0 1 = cc in omega arith
 
-nothing : {n l count : ℕ} {a : Allocated} → ValidWindow a.window n l → ((k : ℕ) → a.answer ≡ answer.Block k → ⊥) → Outcome n l count a
+nothing : {n l count : ℕ} {a : Allocated} → ValidWindow a.window n l → ((k : ℕ) → a.answer ≡ Ok k → ⊥) → Outcome n l count a
 nothing g f = record { valid = g; below = λ k e. absurd (f k e); falls = λ k e. absurd (f k e) }
 
 fewer : {n l c d : ℕ} {a : Allocated} → d ≤ c → Outcome n l d a → Outcome n l c a
 fewer h o = record { valid = o.valid; below = o.below; falls = λ k e. omega (arith, o.falls k e) }
 
-not_empty : (k : ℕ) → ◌≡◌ {A = Got} got.Empty (got.Block k) → ⊥
+not_empty : (k : ℕ) → ◌≡◌ {A = Option ℕ} option.None (Some k) → ⊥
 not_empty k e = let z : ◌≡◌ {A = ℕ} 0 1 = cc in omega arith
 
 module _ {n l : ℕ} {w : Lookahead} (g : ValidWindow w n l) where
   -- the block that a search found
-  taken : (k : ℕ) → (take_of n w).answer ≡ got.Block k → (k < n) × ((take_of n w).window.ckpoint < w.ckpoint)
+  taken : (k : ℕ) → (take_of n w).answer ≡ Some k → (k < n) × ((take_of n w).window.ckpoint < w.ckpoint)
   unfolding take_of
   taken =
       let at = free_from w w.next in
       let p = free_stops w.map w.next w.size g.next_le in
       ltb_cases at w.size
-      (λ t. (k : ℕ) → (take_case t n w at).answer ≡ got.Block k → (k < n) × ((take_case t n w at).window.ckpoint < w.ckpoint))
+      (λ t. (k : ℕ) → (take_case t n w at).answer ≡ Some k → (k < n) × ((take_case t n w at).window.ckpoint < w.ckpoint))
       (λ h k e.
       let q = free_stops w.map (at + 1) w.size (omega arith) in
       let b : (w.start + at) % n ≡ k = cc in
@@ -71,16 +71,16 @@ module _ (n l : ℕ) (seen : Seen) where
       go true = h (mark_on n (cleared (scope n l) v) seen.blocks) (map_valid (cleared_valid g) _) refl
       go false = nothing (dropped_valid (map_valid (cleared_valid g) _)) damaged_block
 
-  on_got_lem : (count : ℕ) (q : Got) (v : Lookahead) (f : Lookahead → Allocated) → ValidWindow v n l
-      → ((k : ℕ) → q ≡ got.Block k → (k < n) × (v.ckpoint < count)) → (q ≡ got.Empty → Outcome n l count (f v))
+  on_got_lem : (count : ℕ) (q : Option ℕ) (v : Lookahead) (f : Lookahead → Allocated) → ValidWindow v n l
+      → ((k : ℕ) → q ≡ Some k → (k < n) × (v.ckpoint < count)) → (q ≡ option.None → Outcome n l count (f v))
       → Outcome n l count (on_got q v f)
-  on_got_lem count (got.Block b) v f g h r =
+  on_got_lem count (Some b) v f g h r =
       record {
         valid = g;
-        below = λ k e. (h k (let i : b ≡ k = cc in ap got.Block i)).0;
-        falls = λ k e. (h k (let i : b ≡ k = cc in ap got.Block i)).1;
+        below = λ k e. (h k (let i : b ≡ k = cc in ap Some i)).0;
+        falls = λ k e. (h k (let i : b ≡ k = cc in ap Some i)).1;
       }
-  on_got_lem count got.Empty v f g h r =
+  on_got_lem count option.None v f g h r =
       eqb_cases v.ckpoint 0 (λ t. Outcome n l count (used_up t v f)) (λ z. nothing g not_block) (λ z. r refl)
 
   by_searches : (m : ℕ) (w : Lookahead) → ValidWindow w n l → Outcome n l w.ckpoint (alloc_by m (scope n l) seen w)
@@ -95,20 +95,21 @@ module _ (n l : ℕ) (seen : Seen) where
   unfolding alloc_of
   allocated w g = by_searches (w.ckpoint + 2) w g
 
+-- any refusal but -28 ends a write
+bad_of : (r : Refusal) (w : Lookahead) → (r ≡ refusal.NoSpace → ⊥) → took_of (Err r) w ≡ Bad w
+bad_of refusal.NoSpace w n = absurd (n refl)
+bad_of r w n = refl
+
 -- the window as a growth's allocator
 module _ (B N l : ℕ) (t : Table) (w : Lookahead) (img : List ℕ) {a : Allocated} (p : a ≡ alloc_of (scope N l) (seen_in (card_with B N img) t) w) where
-  pub took_block : {k : ℕ} → a.answer ≡ answer.Block k → window_alloc B N l t w img ≡ Block k a.window
+  pub took_block : {k : ℕ} → a.answer ≡ Ok k → window_alloc B N l t w img ≡ Block k a.window
   unfolding window_alloc
   took_block e = rw (window_alloc, ← p, e)
 
-  pub took_none : a.answer ≡ answer.NoSpace → window_alloc B N l t w img ≡ None a.window
+  pub took_none : a.answer ≡ Err refusal.NoSpace → window_alloc B N l t w img ≡ None a.window
   unfolding window_alloc
   took_none e = rw (window_alloc, ← p, e)
 
-  pub took_bad : a.answer ≡ answer.Damaged → window_alloc B N l t w img ≡ Bad a.window
+  pub took_bad : {r : Refusal} → a.answer ≡ Err r → (r ≡ refusal.NoSpace → ⊥) → window_alloc B N l t w img ≡ Bad a.window
   unfolding window_alloc
-  took_bad e = rw (window_alloc, ← p, e)
-
-  pub took_refused : a.answer ≡ answer.Refused → window_alloc B N l t w img ≡ Bad a.window
-  unfolding window_alloc
-  took_refused e = rw (window_alloc, ← p, e)
+  took_bad e n = rw (window_alloc, ← p, e) (bad_of _ a.window n)

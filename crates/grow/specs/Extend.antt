@@ -1,14 +1,12 @@
 -- `ctz_extend`: one growth with the window as its allocator, for every input (01, "Lookup, visit, grow", "The window", "Refusal numbers").
-use Rattle.std.specs.Prelude.{true, false, ◌&&◌, List, ℕ, suc, leb}
+use Rattle.layout.specs.declared.Refusal.TheVariants as refusal
+use Rattle.std.specs.Prelude.{true, false, ◌&&◌, List, ℕ, suc, leb, Ok, Err}
 use Rattle.layout.specs.Numbers.{size_max}
 use Rattle.layout.specs.Layout.{BlockList, offset_at}
 use Rattle.files.specs.declared.Table.{Table}
 use Rattle.files.specs.Table.{table_ok}
 use Rattle.window.specs.declared.Lookahead.{Lookahead}
-use Rattle.window.specs.declared.Answer.{Answer}
-use Rattle.window.specs.declared.Answer.TheVariants as answer
-use Rattle.window.specs.declared.Allocated.{Allocated}
-use Rattle.window.specs.Allocate.{alloc_of}
+use Rattle.window.specs.Allocate.{alloc_of, Answer, Allocated}
 use Rattle.alloc.specs.Visits.{seen_in}
 use Rattle.trials.specs.Loop.{Took, Block, None, Bad, Flash, Plan, Writing, Written, NoRoom, Corrupt, WriteOut, write_by}
 use Rattle.grow.specs.declared.Growth.{Growth}
@@ -18,10 +16,9 @@ use Rattle.grow.specs.Growth.{growth}
 
 -- an allocation as a write asks for it; behind the tests none is refused
 abbrev pub took_of : Answer → Lookahead → Took Lookahead
-took_of (answer.Block k) w = Block k w
-took_of answer.NoSpace w = None w
-took_of answer.Damaged w = Bad w
-took_of answer.Refused w = Bad w
+took_of (Ok k) w = Block k w
+took_of (Err refusal.NoSpace) w = None w
+took_of (Err e) w = Bad w
 
 -- the window as an allocator: its scans visit the table's files
 abbrev pub alloc_in : Setting → Table → Lookahead → List ℕ → Took Lookahead

@@ -5,7 +5,8 @@ ghost use Rattle.grow.specs.inner.Gives.{GrewGives};
 use crate::block::{Linked, try_block};
 use crate::{Grew, Growth};
 use files::Table;
-use window::{Answer, Got, Lookahead};
+use layout::Refusal;
+use window::Lookahead;
 
 // A growth with the files at hand: blocks are allocated until one takes the erase and the first program.
 pub(crate) fn extend_scan(
@@ -27,10 +28,9 @@ pub(crate) fn extend_scan(
     let mut window = w;
     loop {
         let took = alloc::alloc_in(b, n, l, &image[..], t, window);
-        let answer = took.answer;
         window = took.window;
-        match answer {
-            Answer::Block(k) => {
+        match took.answer {
+            Ok(k) => {
                 let linked = try_block(image, health, b, n, k, head, size);
                 match linked {
                     Linked::Done(growth) => {
@@ -42,19 +42,13 @@ pub(crate) fn extend_scan(
                     Linked::Spoiled => {}
                 }
             }
-            Answer::NoSpace => {
+            Err(Refusal::NoSpace) => {
                 return Grew {
                     answer: Growth::Full,
                     window: window,
                 };
             }
-            Answer::Damaged => {
-                return Grew {
-                    answer: Growth::Damaged,
-                    window: window,
-                };
-            }
-            Answer::Refused => {
+            Err(_) => {
                 return Grew {
                     answer: Growth::Damaged,
                     window: window,
@@ -102,10 +96,9 @@ pub fn extend_in(
         result image.new }
 {
     let taken = window::take(w, n);
-    let got = taken.answer;
     let window = taken.window;
-    match got {
-        Got::Block(k) => {
+    match taken.answer {
+        Some(k) => {
             if health[k as usize] != 0 {
                 return extend_rest(b, n, l, image, health, t, w, head, size);
             }
@@ -121,6 +114,6 @@ pub fn extend_in(
                 },
             }
         }
-        Got::Empty => extend_rest(b, n, l, image, health, t, w, head, size),
+        None => extend_rest(b, n, l, image, health, t, w, head, size),
     }
 }

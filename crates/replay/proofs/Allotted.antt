@@ -13,8 +13,8 @@ use Rattle.layout.specs.declared.Geometry.{Geometry}
 use Rattle.card.specs.inner.Cards.{card_with}
 use Rattle.files.specs.declared.Table.{Table}
 use Rattle.files.proofs.Tests.{both_left, both_right}
+use Rattle.window.specs.Allocate.{Allocated}
 use Rattle.window.specs.declared.Lookahead.{Lookahead}
-use Rattle.window.specs.declared.Allocated.{Allocated}
 use Rattle.alloc.specs.Allocate.{allocate_of}
 use Rattle.grow.specs.declared.Grew.{Grew}
 use Rattle.grow.specs.Extend.{extend_of}

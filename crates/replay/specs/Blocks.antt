@@ -1,8 +1,8 @@
 -- Records on the blocks of a card: one allocation and one growth.
 use Rattle.std.specs.Prelude.{Bool, true, false, ◌&&◌, List, [], ◌∷◌, ℕ, leb, eqb, length}
 use Rattle.card.specs.inner.Cards.{card_with}
+use Rattle.window.specs.Allocate.{Allocated}
 use Rattle.window.specs.declared.Lookahead.{Lookahead}
-use Rattle.window.specs.declared.Allocated.{Allocated}
 use Rattle.alloc.specs.Allocate.{allocate_of}
 use Rattle.grow.specs.Extend.{extend_of, GrowOut}
 use Rattle.grow.specs.inner.Setting.{setting, state}

@@ -2,11 +2,11 @@
 use mathlib.Core.Path.{◌≡◌}
 use mathlib.Core.Bool.{Bool, true, false}
 use mathlib.Core.List.{List}
+use Rattle.std.specs.Prelude.{None}
 use Prim.Native.Nat.{ℕ, ◌+◌, ◌-◌, ◌*◌, ◌≤◌, ◌<◌}
 use native.Mathlib.Nat.{mod-lt, min-le_left, min-le_right}
 use native.Mathlib.Omega.{arith}
 use Rattle.window.specs.declared.Lookahead.{Lookahead}
-use Rattle.window.specs.declared.Got.TheVariants.{Empty}
 use Rattle.window.specs.Value.{fresh_of, checkpoint_of, dropped_of, with_map}
 use Rattle.window.specs.Allocate.{free_from, moved, take_case, take_of}
 use Rattle.window.specs.Scan.{Seen, cleared, mark_on, scan_case, scan_of}
@@ -94,13 +94,13 @@ module _ {w : Lookahead} {n l : ℕ} (g : ValidWindow w n l) where
       (λ h. moved_valid at p.ge p.le)
 
   -- a search that used the window up passed every offset that was left
-  pub take_empty : (take_of n w).answer ≡ Empty → (take_of n w).window.ckpoint ≡ w.ckpoint - (w.size - w.next)
+  pub take_empty : (take_of n w).answer ≡ None → (take_of n w).window.ckpoint ≡ w.ckpoint - (w.size - w.next)
   unfolding take_of
   take_empty =
       let at = free_from w w.next in
       let p = free_stops w.map w.next w.size g.next_le in
       ltb_cases at w.size
-      (λ t. (take_case t n w at).answer ≡ Empty → (take_case t n w at).window.ckpoint ≡ w.ckpoint - (w.size - w.next))
+      (λ t. (take_case t n w at).answer ≡ None → (take_case t n w at).window.ckpoint ≡ w.ckpoint - (w.size - w.next))
       (λ h e. let z : ◌≡◌ {A = ℕ} 0 1 = cc in absurd (omega arith))
       (λ h e. omega (arith, p.le))
 

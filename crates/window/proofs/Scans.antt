@@ -3,6 +3,8 @@ use mathlib.Core.Path.{◌≡◌, refl}
 use mathlib.Core.Bool.{true, false}
 use mathlib.Core.List.{List, [], ◌∷◌, ◌++◌, append-nil}
 use Prim.Native.Nat.{ℕ}
+use Rattle.std.specs.Prelude.{Ok, Err}
+use Rattle.layout.specs.declared.Refusal.TheVariants.{Damaged}
 use Rattle.window.specs.declared.Lookahead.{Lookahead}
 use Rattle.window.specs.Scan.{mark_map, mark_all, Seen, seen_all, cleared, mark_on, scan_from, scan_of}
 use Rattle.window.specs.Value.{with_map, dropped_of}
@@ -25,7 +27,7 @@ scan_start n l seen w = refl
 
 module _ (n : ℕ) (v : Lookahead) where
   -- no file is left
-  pub scan_end : scan_from n (seen_all []) v ≡ record { ok = true; window = v }
+  pub scan_end : scan_from n (seen_all []) v ≡ record { answer = Ok tt; window = v }
   unfolding seen_all mark_all
   scan_end = refl
 
@@ -36,6 +38,6 @@ module _ (n : ℕ) (v : Lookahead) where
     scan_file e = rw (e, all_append n s.blocks (seen_all rest).blocks v)
 
     -- a file whose visit met -84
-    pub scan_stops : s.ok ≡ false → scan_from n (seen_all (s ∷ rest)) v ≡ record { ok = false; window = dropped_of n (mark_on n v s.blocks) }
+    pub scan_stops : s.ok ≡ false → scan_from n (seen_all (s ∷ rest)) v ≡ record { answer = Err Damaged; window = dropped_of n (mark_on n v s.blocks) }
     unfolding seen_all
     scan_stops e = rw (e, append-nil)

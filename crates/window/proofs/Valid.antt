@@ -1,44 +1,23 @@
 -- The tests of a window and of N and L, as facts. Assumes nothing.
-use mathlib.Core.Path.{◌≡◌}
-use mathlib.Core.Bool.{true, false, ◌&&◌, and-eq-true_iff}
+use mathlib.Core.Path.{◌≡◌, refl}
+use mathlib.Core.Bool.{Bool, true, false, ◌&&◌, and-eq-true_iff}
 use Prim.Native.Nat.{ℕ, ◌-◌, ◌*◌, ◌≤◌, ◌<◌, min}
 use native.Mathlib.Nat.{min-le_left, min-le_right, le_trans, le-min}
 use native.Mathlib.Omega.{arith}
 use borrow.Author.Tests.{ltb-true, leb-true, lt-ltb, le-ltb, le-leb, lt-leb}
 use lib.Dec.{leb}
 use Rattle.layout.specs.declared.Geometry.{Geometry}
-use Rattle.std.specs.Prelude.{Ok, Err}
+use Rattle.std.specs.Prelude.{Result}
+use Rattle.std.specs.Result.{is_ok}
 use Rattle.layout.specs.declared.Refusal.{Refusal}
 use Rattle.layout.specs.Geometry.{size_fits, count_fits, card_fits}
 use Rattle.layout.specs.inner.Served.{geometry}
-use Rattle.layout.specs.inner.Made.{made_of}
-use Rattle.layout.proofs.Makes.{made_fits, refused_fits}
+use Rattle.layout.specs.inner.Made.{made_of, pick_made}
 use Rattle.window.specs.declared.Lookahead.{Lookahead}
 use Rattle.window.specs.Value.{lookahead_fits, valid_of, sizes_fit}
 use Rattle.window.specs.inner.Facts.{ValidWindow, GoodScope, Searchable, scope}
 
 module _ (w : Lookahead) (n l : ℕ) where
-  -- the tests one by one: the first that fails, and the last where none before it does
-  pub bad_start : n ≤ w.start → false ≡ valid_of (scope n l) w
-  unfolding valid_of
-  bad_start a = rw (le-ltb _ _ a)
-
-  pub bad_next : w.start < n → w.size < w.next → false ≡ valid_of (scope n l) w
-  unfolding valid_of
-  bad_next a b = rw (lt-ltb _ _ a, lt-leb _ _ b)
-
-  pub bad_size : w.start < n → w.next ≤ w.size → min (8 * l) n < w.size → false ≡ valid_of (scope n l) w
-  unfolding valid_of
-  bad_size a b c = rw (lt-ltb _ _ a, le-leb _ _ b, lt-leb _ _ c)
-
-  pub bad_left : w.start < n → w.next ≤ w.size → w.size ≤ min (8 * l) n → w.ckpoint < w.size - w.next → false ≡ valid_of (scope n l) w
-  unfolding valid_of
-  bad_left a b c d = rw (lt-ltb _ _ a, le-leb _ _ b, le-leb _ _ c, lt-leb _ _ d)
-
-  pub last_test : w.start < n → w.next ≤ w.size → w.size ≤ min (8 * l) n → w.size - w.next ≤ w.ckpoint → leb w.ckpoint n ≡ valid_of (scope n l) w
-  unfolding valid_of
-  last_test a b c d = rw (lt-ltb _ _ a, le-leb _ _ b, le-leb _ _ c, le-leb _ _ d)
-
   -- THEOREM. The test says valid exactly for the valid windows.
   pub tested_valid : valid_of (scope n l) w ≡ true → ValidWindow w n l
   unfolding valid_of
@@ -96,11 +75,11 @@ sizes g l e =
     let count = (and-eq-true_iff _ _).0 ((and-eq-true_iff (size_fits B) _).0 card.0).1 in
     looks N l (leb-true _ _ count.0) (leb-true _ _ count.1) all.1
 
--- what `Geometry::new` answers leaves the test of L, or none
-pub sizes_made : (h : Geometry) (l : ℕ) (g : Geometry) → made_of (geometry h.block_size h.block_count) ≡ Ok g → lookahead_fits l ≡ sizes_fit h l
-unfolding sizes_fit
-sizes_made h l g e = rw (made_fits h.block_size h.block_count g e)
+made_told : (t : Bool) (g : Geometry) → is_ok (pick_made t g) ≡ t
+made_told true g = refl
+made_told false g = refl
 
-pub sizes_refused : (h : Geometry) (l : ℕ) (r : Refusal) → made_of (geometry h.block_size h.block_count) ≡ Err r → false ≡ sizes_fit h l
+-- whether `Geometry::new` makes one, and the test of L
+pub sizes_told : (g : Geometry) (l : ℕ) {r : Result Geometry Refusal} → r ≡ made_of (geometry g.block_size g.block_count) → is_ok r && lookahead_fits l ≡ sizes_fit g l
 unfolding sizes_fit
-sizes_refused h l r e = rw (refused_fits h.block_size h.block_count r e)
+sizes_told g l e = rw (e, made_told (card_fits g) g)

@@ -1,8 +1,10 @@
 -- A scan (01, "The window"), told what the visits of all files hand over: the window never sees an image.
-use Rattle.std.specs.Prelude.{Bool, true, false, ◌&&◌, List, [], ◌∷◌, ◌++◌, ℕ, ◌+◌, ◌-◌, ◌*◌, ◌%◌, min, ltb, replicate}
+use Rattle.std.specs.Prelude.{Bool, true, false, ◌&&◌, List, [], ◌∷◌, ◌++◌, ℕ, ◌+◌, ◌-◌, ◌*◌, ◌%◌, min, ltb, replicate, Result, Ok, Err}
 use Rattle.span.specs.Members.{with_bit_in}
+use Rattle.layout.specs.declared.Refusal.{Refusal}
+use Rattle.layout.specs.declared.Refusal.TheVariants.{Damaged}
 use Rattle.window.specs.declared.Lookahead.{Lookahead}
-use Rattle.window.specs.declared.Scanned.{Scanned}
+use Rattle.window.specs.declared.Windowed.{Windowed}
 use Rattle.window.specs.Value.{Scope, with_map, dropped_of}
 
 -- what visits hand over, in order: all (ok true), or up to the first -84 (ok false)
@@ -53,15 +55,20 @@ cleared s w =
 abbrev pub mark_on : ℕ → Lookahead → List ℕ → Lookahead
 mark_on N w bs = with_map w (mark_all N w bs)
 
+-- what a visit or a scan answers: -84 where it met that
+abbrev pub visit_answer : Bool → Result Unit Refusal
+visit_answer true = Ok tt
+visit_answer false = Err Damaged
+
 -- a scan meeting -84 drops the window, whose map stays as it was marked so far
-abbrev pub scan_case : Bool → ℕ → Lookahead → Scanned
-scan_case true N w = record { ok = true; window = w }
-scan_case false N w = record { ok = false; window = dropped_of N w }
+abbrev pub scan_case : Bool → ℕ → Lookahead → Windowed (Result Unit Refusal)
+scan_case true N w = record { answer = Ok tt; window = w }
+scan_case false N w = record { answer = Err Damaged; window = dropped_of N w }
 
 -- the rest of a scan, from the window as it is marked so far
-abbrev pub scan_from : ℕ → Seen → Lookahead → Scanned
+abbrev pub scan_from : ℕ → Seen → Lookahead → Windowed (Result Unit Refusal)
 scan_from N seen w = scan_case seen.ok N (mark_on N w seen.blocks)
 
 -- a scan of window w
-unfoldable pub scan_of : Scope → Seen → Lookahead → Scanned
+unfoldable pub scan_of : Scope → Seen → Lookahead → Windowed (Result Unit Refusal)
 scan_of s seen w = scan_from s.N seen (cleared s w)

@@ -1,10 +1,11 @@
 -- The window as a value (01, "The window"): fresh, checkpointed, dropped, which windows are refused, and the calls that set a window up.
-use Rattle.std.specs.Prelude.{Bool, true, false, ◌&&◌, List, ℕ, ◌-◌, ◌*◌, ◌%◌, min, ltb, leb, eqb, replicate}
+use Rattle.std.specs.Prelude.{Bool, true, false, ◌&&◌, List, ℕ, ◌-◌, ◌*◌, ◌%◌, min, ltb, leb, eqb, replicate, Result, Ok, Err}
 use Rattle.layout.specs.declared.Geometry.{Geometry}
+use Rattle.layout.specs.declared.Refusal.{Refusal}
+use Rattle.layout.specs.declared.Refusal.TheVariants.{Invalid}
 use Rattle.layout.specs.Geometry.{card_fits}
 use Rattle.window.specs.declared.Lookahead.{Lookahead}
-use Rattle.window.specs.declared.setup.Reply.TheVariants.{Done, Refused}
-use Rattle.window.specs.declared.setup.Replied.{Replied}
+use Rattle.window.specs.declared.Windowed.{Windowed}
 
 -- what a window is for: the block count of the card, and lookahead L
 pub record Scope : Type 0 where
@@ -46,22 +47,22 @@ scope_of g l = record { N = g.block_count; L = l }
 unfoldable pub sizes_fit : Geometry → ℕ → Bool
 sizes_fit g l = card_fits g && lookahead_fits l
 
-abbrev pub replied : Lookahead → Bool → Lookahead → Replied
-replied w true new = record { answer = Done; window = new }
-replied w false new = record { answer = Refused; window = w }
+abbrev pub replied : Lookahead → Bool → Lookahead → Windowed (Result Unit Refusal)
+replied w true new = record { answer = Ok tt; window = new }
+replied w false new = record { answer = Err Invalid; window = w }
 
 -- what a fresh window is asked with; refused, the answer is the window of zeros
 pub record Fresh : Type 0 where
   pub L : ℕ
   pub start : ℕ
 
-unfoldable pub fresh_reply : Geometry → Fresh → Replied
+unfoldable pub fresh_reply : Geometry → Fresh → Windowed (Result Unit Refusal)
 fresh_reply g f =
     replied (fresh_of (record { N = 0; L = 0 }) 0) (sizes_fit g f.L && ltb f.start g.block_count) (fresh_of (scope_of g f.L) f.start)
 
 -- refused, the window as it came
-unfoldable pub checkpoint_reply : Geometry → ℕ → Lookahead → Replied
+unfoldable pub checkpoint_reply : Geometry → ℕ → Lookahead → Windowed (Result Unit Refusal)
 checkpoint_reply g l w = replied w (sizes_fit g l && valid_of (scope_of g l) w) (checkpoint_of g.block_count w)
 
-unfoldable pub dropped_reply : Geometry → ℕ → Lookahead → Replied
+unfoldable pub dropped_reply : Geometry → ℕ → Lookahead → Windowed (Result Unit Refusal)
 dropped_reply g l w = replied w (sizes_fit g l && valid_of (scope_of g l) w) (dropped_of g.block_count w)

@@ -38,14 +38,10 @@ pub fn next_free(map: &[u8; 64], from: u32, size: u32) -> u32
     requires { size ≤ 512 }
     ensures { result ≡ skip (size - from) map.now from }
 {
-    let mut o = from;
-    while o < size {
-        let i = (o / 8) as usize;
-        if bit(map[i], (o % 8) as u8) {
-            o += 1;
-        } else {
+    for o in from..size {
+        if !bit(map[(o / 8) as usize], (o % 8) as u8) {
             return o;
         }
     }
-    o
+    from.max(size)
 }

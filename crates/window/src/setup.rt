@@ -1,99 +1,78 @@
 // The calls that set a window up: fresh, checkpoint and drop, for every input.
 ghost use Rattle.std.specs.Prelude.{◌≡◌};
-ghost use Rattle.window.specs.Value.{sizes_fit, fresh_reply, checkpoint_reply, dropped_reply};
+ghost use Rattle.window.specs.Value.{sizes_fit, fresh_of, fresh_reply, checkpoint_reply, dropped_reply};
+ghost use Rattle.window.specs.inner.Facts.{scope};
 
-use crate::Lookahead;
-use layout::Geometry;
-
-// What these calls answer.
-#[derive(Clone, Copy)]
-pub enum Reply {
-    Done,
-    // -22.
-    Refused,
-}
-
-#[derive(Clone, Copy)]
-pub struct Replied {
-    pub answer: Reply,
-    pub window: Lookahead,
-}
+use crate::{Lookahead, Windowed};
+use layout::{Geometry, Refusal};
 
 // Whether geometry and lookahead are right.
 pub fn valid_sizes(g: Geometry, l: u32) -> bool
     ensures { result ≡ sizes_fit g l }
 {
-    match Geometry::new(g.block_size, g.block_count) {
-        Ok(_) => crate::valid_lookahead(l),
-        Err(_) => false,
+    Geometry::new(g.block_size, g.block_count).is_ok() && crate::valid_lookahead(l)
+}
+
+// The window of no blocks from block `start` on, with this count.
+fn empty(start: u32, ckpoint: u32) -> Lookahead
+    ensures { result ≡ fresh_of (scope ckpoint 0) start }
+{
+    Lookahead {
+        map: [0; 64],
+        start,
+        next: 0,
+        size: 0,
+        ckpoint,
     }
 }
 
 // A fresh window from block `start` on. Refused: the window of zeros.
-pub fn fresh(g: Geometry, l: u32, start: u32) -> Replied
+pub fn fresh(g: Geometry, l: u32, start: u32) -> Windowed<Result<(), Refusal>>
     ensures { result ≡ fresh_reply g (record { L = l; start = start }) }
 {
     let n = g.block_count;
-    if valid_sizes(g, l) {
-        if start < n {
-            return Replied {
-                answer: Reply::Done,
-                window: Lookahead {
-                    map: [0u8; 64],
-                    start: start,
-                    next: 0,
-                    size: 0,
-                    ckpoint: n,
-                },
-            };
-        }
+    if valid_sizes(g, l) && start < n {
+        return Windowed {
+            answer: Ok(()),
+            window: empty(start, n),
+        };
     }
-    Replied {
-        answer: Reply::Refused,
-        window: Lookahead {
-            map: [0u8; 64],
-            start: 0,
-            next: 0,
-            size: 0,
-            ckpoint: 0,
-        },
+    Windowed {
+        answer: Err(Refusal::Invalid),
+        window: empty(0, 0),
     }
 }
 
 // The window checkpointed. Refused: the window as it came.
-pub fn checkpoint(g: Geometry, l: u32, w: Lookahead) -> Replied
+pub fn checkpoint(g: Geometry, l: u32, w: Lookahead) -> Windowed<Result<(), Refusal>>
     ensures { result ≡ checkpoint_reply g l w }
 {
     let n = g.block_count;
-    if valid_sizes(g, l) {
-        if crate::valid_window(w, n, l) {
-            return Replied {
-                answer: Reply::Done,
-                window: crate::alloc_ckpoint(w, n),
-            };
-        }
+    if valid_sizes(g, l) && crate::valid_window(w, n, l) {
+        return Windowed {
+            answer: Ok(()),
+            window: crate::alloc_ckpoint(w, n),
+        };
     }
-    Replied {
-        answer: Reply::Refused,
+    Windowed {
+        answer: Err(Refusal::Invalid),
         window: w,
     }
 }
 
 // The window dropped. Refused: the window as it came.
-pub fn dropped(g: Geometry, l: u32, w: Lookahead) -> Replied
+pub fn dropped(g: Geometry, l: u32, w: Lookahead) -> Windowed<Result<(), Refusal>>
     ensures { result ≡ dropped_reply g l w }
 {
     let n = g.block_count;
-    if valid_sizes(g, l) {
-        if crate::valid_window(w, n, l) {
-            return Replied {
-                answer: Reply::Done,
-                window: crate::alloc_drop(w, n),
-            };
-        }
+    if valid_sizes(g, l) && crate::valid_window(w, n, l) {
+        return Windowed {
+            answer: Ok(()),
+            window: crate::alloc_drop(w, n),
+        };
     }
-    Replied {
-        answer: Reply::Refused,
+    Windowed {
+        answer: Err(Refusal::Invalid),
         window: w,
     }
 }

@@ -5,13 +5,10 @@ use Prim.Native.Nat.{ℕ, zero, suc, ◌+◌, ◌-◌, ◌*◌, ◌%◌, ◌≤�
 use native.Mathlib.Nat.{mod-add-mod, add-mod_right}
 use native.Mathlib.Omega.{arith}
 use Rattle.span.specs.Members.{has, bit_in}
-use Rattle.window.specs.declared.Allocated.{Allocated}
-use Rattle.window.specs.declared.Answer.{Answer}
-use Rattle.window.specs.declared.Answer.TheVariants.{NoSpace}
-use Rattle.window.specs.declared.Got.TheVariants.{Block, Empty}
-use Rattle.window.specs.declared.Got.{Got}
+use Rattle.std.specs.Prelude.{Option, Some, None, Err}
+use Rattle.layout.specs.declared.Refusal.TheVariants as refusal
 use Rattle.window.specs.declared.Lookahead.{Lookahead}
-use Rattle.window.specs.Allocate.{alloc_by, alloc_of, on_got, on_scan, used_up, free_from, moved, take_case, take_of}
+use Rattle.window.specs.Allocate.{alloc_by, alloc_of, on_got, on_scan, used_up, free_from, moved, take_case, take_of, Answer, Allocated}
 use Rattle.window.specs.Scan.{Seen, cleared, mark_on, scan_case, scan_of}
 use Rattle.window.specs.inner.Facts.{ValidWindow, GoodScope, scope}
 use Rattle.window.proofs.Cases.{eqb_cases, ltb_cases, no_both}
@@ -41,11 +38,11 @@ some_on n l w g =
     sym (mod-add-mod (w.start + w.next + w.ckpoint) n (n - w.ckpoint) ∙ ap (λ (x : ℕ). x % n) e ∙ add-mod_right (w.start + w.next) n)
 
 -- how a search ends
-pub data Search (R : Claim) (base n : ℕ) (w : Lookahead) : Got → Lookahead → Type 0 where
-  found : {b : ℕ} {v : Lookahead} → Handed R base n w.ckpoint b v.ckpoint → Search R base n w (Block b) v
-  used : {v : Lookahead} → v.ckpoint ≡ w.ckpoint - (w.size - w.next) → PassedMarked R base n (n - w.ckpoint) (n - v.ckpoint) → Search R base n w Empty v
+pub data Search (R : Claim) (base n : ℕ) (w : Lookahead) : Option ℕ → Lookahead → Type 0 where
+  found : {b : ℕ} {v : Lookahead} → Handed R base n w.ckpoint b v.ckpoint → Search R base n w (Some b) v
+  used : {v : Lookahead} → v.ckpoint ≡ w.ckpoint - (w.size - w.next) → PassedMarked R base n (n - w.ckpoint) (n - v.ckpoint) → Search R base n w None v
 
-pub record SoughtBlock (R : Claim) (base n l : ℕ) (w : Lookahead) (g : Got) (v : Lookahead) : Type 0 where
+pub record SoughtBlock (R : Claim) (base n l : ℕ) (w : Lookahead) (g : Option ℕ) (v : Lookahead) : Type 0 where
   pub valid : ValidWindow v n l
   pub says : Says R n v
   pub on : On base n v
@@ -163,12 +160,12 @@ module _ (R : Claim) (base n l : ℕ) (seen : Seen) (z : GoodScope n l) (low : B
           on refl refl
       go false ok = (record { valid = dropped_valid (map_valid c _); says = λ o a b. absurd (omega arith); view = bad ok refl refl }, λ e. absurd (no_both false e refl))
 
-  on_got_lem : (w : Lookahead) (q : Got) (v : Lookahead) (F : Lookahead → Allocated) → ValidWindow w n l → first ≤ n - w.ckpoint + (w.size - w.next) → SoughtBlock R base n l w q v
+  on_got_lem : (w : Lookahead) (q : Option ℕ) (v : Lookahead) (F : Lookahead → Allocated) → ValidWindow w n l → first ≤ n - w.ckpoint + (w.size - w.next) → SoughtBlock R base n l w q v
       → ((v.ckpoint ≡ 0 → ⊥) → v.ckpoint ≡ w.ckpoint - (w.size - w.next) → Reached v.ckpoint (F v))
       → Reached w.ckpoint (on_got q v F)
   on_got_lem w q v F g m r k = go r.how k
     where
-      go : {p : Got} → Search R base n w p v
+      go : {p : Option ℕ} → Search R base n w p v
           → ((v.ckpoint ≡ 0 → ⊥) → v.ckpoint ≡ w.ckpoint - (w.size - w.next) → Reached v.ckpoint (F v))
           → Reached w.ckpoint (on_got p v F)
       go (found f) k = (record { valid = r.valid; says = r.says; view = handed f r.on }, λ e. omega (arith, r.reach))
@@ -198,12 +195,12 @@ pub alloc_view : (R : Claim) (base n l : ℕ) (seen : Seen) → GoodScope n l �
 alloc_view R base n l seen z low told w g s h = (alloc_from R base n l seen z low 0 (λ ok k _ _. told ok _) w g s h (omega arith)).0
 
 -- THEOREM. -28 leaves a window with nothing left, whatever window it was.
-pub none_after : (n l : ℕ) (seen : Seen) → GoodScope n l → Below n seen.blocks → (w : Lookahead) → ValidWindow w n l → (alloc_of (scope n l) seen w).answer ≡ NoSpace
+pub none_after : (n l : ℕ) (seen : Seen) → GoodScope n l → Below n seen.blocks → (w : Lookahead) → ValidWindow w n l → (alloc_of (scope n l) seen w).answer ≡ Err refusal.NoSpace
     → ValidWindow (alloc_of (scope n l) seen w).window n l × ((alloc_of (scope n l) seen w).window.size ≤ (alloc_of (scope n l) seen w).window.next)
 none_after n l seen z low w g e =
     let r = alloc_view (λ b t. ◌≡◌ {A = ℕ} 0 0) _ n l seen z low (λ ok b. refl) w g (λ o a b. refl) (some_on n l w g) in (r.valid, go r.valid r.view e)
   where
-    go : {R : Claim} {base : ℕ} {q : Answer} {v : Lookahead} → ValidWindow v n l → View R base n seen.ok w.ckpoint q v → q ≡ NoSpace → v.size ≤ v.next
+    go : {R : Claim} {base : ℕ} {q : Answer} {v : Lookahead} → ValidWindow v n l → View R base n seen.ok w.ckpoint q v → q ≡ Err refusal.NoSpace → v.size ≤ v.next
     go gv (handed _ _) e = let y : ◌≡◌ {A = ℕ} 0 1 = cc in absurd (omega arith)
     go gv (full c _ _) e = omega (arith, gv.left_le)
     go gv (bad _ _ _) e = let y : ◌≡◌ {A = ℕ} 0 1 = cc in absurd (omega arith)

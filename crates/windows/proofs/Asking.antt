@@ -3,11 +3,11 @@ use mathlib.Core.Path.{◌≡◌}
 use mathlib.Core.Bool.{Bool, true, false}
 use mathlib.Core.List.{List, [], ◌∷◌}
 use Prim.Native.Nat.{ℕ, zero, suc, ◌+◌, ◌-◌, ◌%◌, ◌≤◌, ◌<◌}
+use Rattle.layout.specs.declared.Refusal.TheVariants as refusal
 use Rattle.span.specs.Members.{has}
-use Rattle.window.specs.declared.Answer.TheVariants as answer
-use Rattle.window.specs.declared.Answer.{Answer}
+use Rattle.std.specs.Prelude.{Ok, Err}
 use Rattle.window.specs.declared.Lookahead.{Lookahead}
-use Rattle.window.specs.Allocate.{alloc_of}
+use Rattle.window.specs.Allocate.{alloc_of, Answer}
 use Rattle.window.specs.Scan.{Seen}
 use Rattle.window.specs.inner.Facts.{ValidWindow, scope}
 use Rattle.windows.specs.Space.{good_unused}
@@ -41,18 +41,16 @@ spare good used b = elim (used b) [ true ↦ false | false ↦ good b ]
 
 -- allocation asked again and again until it answers -28: the blocks handed out, in order
 pub data SpentWindow (n l : ℕ) (seen : Seen) : Lookahead → List ℕ → Lookahead → Type 0 where
-  last : {w : Lookahead} → (alloc_of (scope n l) seen w).answer ≡ answer.NoSpace → SpentWindow n l seen w [] (alloc_of (scope n l) seen w).window
-  more : {w v : Lookahead} {bs : List ℕ} (b : ℕ) → (alloc_of (scope n l) seen w).answer ≡ answer.Block b → SpentWindow n l seen (alloc_of (scope n l) seen w).window bs v → SpentWindow n l seen w (b ∷ bs) v
+  last : {w : Lookahead} → (alloc_of (scope n l) seen w).answer ≡ Err refusal.NoSpace → SpentWindow n l seen w [] (alloc_of (scope n l) seen w).window
+  more : {w v : Lookahead} {bs : List ℕ} (b : ℕ) → (alloc_of (scope n l) seen w).answer ≡ Ok b → SpentWindow n l seen (alloc_of (scope n l) seen w).window bs v → SpentWindow n l seen w (b ∷ bs) v
 
 abbrev pub enough : ℕ → Bool → Bool
 enough zero t = true
 enough (suc m) t = t
 
 abbrev pub on_answer : Answer → (ℕ → Bool) → Bool
-on_answer (answer.Block b) f = f b
-on_answer answer.NoSpace f = false
-on_answer answer.Damaged f = false
-on_answer answer.Refused f = false
+on_answer (Ok b) f = f b
+on_answer (Err e) f = false
 
 -- allocation asked until m good blocks were handed out (true), or it answers a number below 0 (false); at most f times
 unfoldable pub ask_of : ℕ → (ℕ → Bool) → ℕ → ℕ → Seen → ℕ → Lookahead → Bool
@@ -83,9 +81,9 @@ onto_last (b ∷ bs) out = onto_last bs (b ∷ out)
 -- allocations, as long as the visits hand over what they did. The blocks handed out stand in order.
 pub data Needs (n l : ℕ) (listed : List ℕ) (good : ℕ → Bool) : ℕ → Lookahead → List ℕ → Lookahead → Bool → Type 0 where
   done : {w : Lookahead} → Needs n l listed good 0 w [] w true
-  good_one : {m : ℕ} {w v : Lookahead} {out : List ℕ} {r : Bool} (b : ℕ) (seen : Seen) → Lists n listed seen → (alloc_of (scope n l) seen w).answer ≡ answer.Block b → good b ≡ true
+  good_one : {m : ℕ} {w v : Lookahead} {out : List ℕ} {r : Bool} (b : ℕ) (seen : Seen) → Lists n listed seen → (alloc_of (scope n l) seen w).answer ≡ Ok b → good b ≡ true
       → Needs n l listed good m (alloc_of (scope n l) seen w).window out v r → Needs n l listed good (suc m) w (b ∷ out) v r
-  bad_one : {m : ℕ} {w v : Lookahead} {out : List ℕ} {r : Bool} (b : ℕ) (seen : Seen) → Lists n listed seen → (alloc_of (scope n l) seen w).answer ≡ answer.Block b → good b ≡ false
+  bad_one : {m : ℕ} {w v : Lookahead} {out : List ℕ} {r : Bool} (b : ℕ) (seen : Seen) → Lists n listed seen → (alloc_of (scope n l) seen w).answer ≡ Ok b → good b ≡ false
       → Needs n l listed good (suc m) (alloc_of (scope n l) seen w).window out v r → Needs n l listed good (suc m) w (b ∷ out) v r
-  no_space : {m : ℕ} {w : Lookahead} (seen : Seen) → Lists n listed seen → (alloc_of (scope n l) seen w).answer ≡ answer.NoSpace
+  no_space : {m : ℕ} {w : Lookahead} (seen : Seen) → Lists n listed seen → (alloc_of (scope n l) seen w).answer ≡ Err refusal.NoSpace
       → Needs n l listed good (suc m) w [] (alloc_of (scope n l) seen w).window false

@@ -6,10 +6,10 @@ use Prim.Native.Nat.{ℕ, zero, suc, ◌+◌, ◌-◌, ◌%◌, ◌≤◌, ◌<�
 use native.Mathlib.Omega.{arith}
 use borrow.Author.Tests.{le-leb, lt-leb, leb-true, leb-false}
 use lib.Dec.{leb}
-use Rattle.window.specs.declared.Answer.TheVariants as answer
-use Rattle.window.specs.declared.Answer.{Answer}
+use Rattle.layout.specs.declared.Refusal.TheVariants as refusal
+use Rattle.std.specs.Prelude.{Ok, Err}
 use Rattle.window.specs.declared.Lookahead.{Lookahead}
-use Rattle.window.specs.Allocate.{alloc_of}
+use Rattle.window.specs.Allocate.{alloc_of, Answer}
 use Rattle.window.specs.Scan.{Seen}
 use Rattle.window.specs.inner.Facts.{GoodScope, scope}
 use Rattle.window.proofs.Cases.{no_both}
@@ -121,23 +121,22 @@ module _ (n l : ℕ) (listed : List ℕ) (used : ℕ → Bool) (seen : Seen) (z 
   asked zero base good m w lt k = absurd (omega arith)
   asked (suc f) base good m w lt k =
       let r = view n l listed used seen z (lists_shows t) base w k in
-      go m (alloc_of (scope n l) seen w).answer r.0 (λ b x lower o. asked f base good x (alloc_of (scope n l) seen w).window lower (r.1 b o))
+      go m r.0 (λ b x lower o. asked f base good x (alloc_of (scope n l) seen w).window lower (r.1 b o))
     where
       u : Lookahead
       u = (alloc_of (scope n l) seen w).window
 
-      go : (m : ℕ) (q : Answer) → View (exactly used) base n seen.ok w.ckpoint q u
+      go : (m : ℕ) {q : Answer} → View (exactly used) base n seen.ok w.ckpoint q u
           → (is_block q ≡ true → (x : ℕ) → u.ckpoint < f → On base n u → ask_of f good n l seen x u ≡ leb x (good_in good (all base u.ckpoint)))
           → enough m (on_answer q (λ b. ask_of f good n l seen (m - bit (good b)) u)) ≡ leb m (good_in good (all base w.ckpoint))
-      go zero q v ih = sym (le-leb 0 (good_in good (all base w.ckpoint)) (omega arith))
-      go (suc m) (answer.Block b) (handed p o) ih =
+      go zero v ih = sym (le-leb 0 (good_in good (all base w.ckpoint)) (omega arith))
+      go (suc m) (handed {b = b} p o) ih =
           ih refl (suc m - bit (good b)) (omega (arith, p.from, p.below)) o
           ∙ leb_shift (suc m) (bit (good b)) _
           ∙ ap (λ (x : ℕ). leb (suc m) x) (sym (good_cons good b _) ∙ ap (λ (x : List ℕ). good_in good x) (sym (handed_first base n used w.ckpoint b u.ckpoint k.valid.ck_le p)))
-      go (suc m) answer.NoSpace (full c p o) ih =
+      go (suc m) (full c p o) ih =
           sym (ap (λ (x : List ℕ). leb (suc m) (good_in good x)) (full_none base n used w.ckpoint k.valid.ck_le p) ∙ lt-leb (suc m) (good_in good []) (omega (arith, good_nil good)))
-      go (suc m) answer.Damaged (bad f _ _) ih = absurd (no_both seen.ok t.ok f)
-      go (suc m) answer.Refused v ih = elim v [ ]
+      go (suc m) (bad f _ _) ih = absurd (no_both seen.ok t.ok f)
 
 -- there is one such sequence only
 pub one_spent : {n l : ℕ} {seen : Seen} {w u v : Lookahead} {bs cs : List ℕ} → SpentWindow n l seen w bs u → SpentWindow n l seen w cs v → bs ≡ cs

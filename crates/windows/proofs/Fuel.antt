@@ -3,10 +3,9 @@ use mathlib.Core.Path.{◌≡◌, refl}
 use mathlib.Core.Bool.{Bool, true, false}
 use Prim.Native.Nat.{ℕ, zero, suc, ◌+◌, ◌-◌, ◌*◌, ◌%◌, ◌≤◌, ◌<◌, min}
 use native.Mathlib.Omega.{arith}
-use Rattle.window.specs.declared.Allocated.{Allocated}
-use Rattle.window.specs.declared.Got.{Got}
+use Rattle.std.specs.Prelude.{Option}
 use Rattle.window.specs.declared.Lookahead.{Lookahead}
-use Rattle.window.specs.Allocate.{alloc_by, alloc_of, on_got, on_scan, used_up, take_of}
+use Rattle.window.specs.Allocate.{alloc_by, alloc_of, on_got, on_scan, used_up, take_of, Allocated}
 use Rattle.window.specs.Scan.{Seen, cleared, mark_on, scan_case, scan_of}
 use Rattle.window.specs.inner.Facts.{ValidWindow, GoodScope, scope}
 use Rattle.window.proofs.Cases.{eqb_cases}
@@ -38,7 +37,7 @@ module _ (n l : ℕ) (seen : Seen) (z : GoodScope n l) where
       go true = h (mark_on n (cleared (scope n l) v) seen.blocks) (map_valid (cleared_valid g) _) refl
       go false = refl
 
-  same_got : (base : ℕ) (w : Lookahead) (q : Got) (v : Lookahead) (F G : Lookahead → Allocated) → Search nothing base n w q v
+  same_got : (base : ℕ) (w : Lookahead) (q : Option ℕ) (v : Lookahead) (F G : Lookahead → Allocated) → Search nothing base n w q v
       → ((v.ckpoint ≡ 0 → ⊥) → v.ckpoint ≡ w.ckpoint - (w.size - w.next) → F v ≡ G v) → on_got q v F ≡ on_got q v G
   same_got base w q v F G (found h) k = refl
   same_got base w q v F G (used e p) k = eqb_cases v.ckpoint 0

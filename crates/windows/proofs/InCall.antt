@@ -5,11 +5,11 @@ use mathlib.Core.List.{List, [], ◌∷◌}
 use Prim.Native.Nat.{ℕ, ◌+◌, ◌-◌, ◌%◌, ◌≤◌, ◌<◌}
 use native.Mathlib.Nat.{mod-lt, mod-add-mod}
 use native.Mathlib.Omega.{arith}
+use Rattle.layout.specs.declared.Refusal.TheVariants as refusal
 use Rattle.span.specs.Members.{has}
-use Rattle.window.specs.declared.Answer.TheVariants as answer
-use Rattle.window.specs.declared.Answer.{Answer}
+use Rattle.std.specs.Prelude.{Ok, Err}
 use Rattle.window.specs.declared.Lookahead.{Lookahead}
-use Rattle.window.specs.Allocate.{alloc_of}
+use Rattle.window.specs.Allocate.{alloc_of, Answer}
 use Rattle.window.specs.Scan.{Seen}
 use Rattle.window.specs.Value.{checkpoint_of}
 use Rattle.window.specs.inner.Facts.{ValidWindow, GoodScope, scope}
@@ -88,11 +88,11 @@ module _ (n l : ℕ) (listed : List ℕ) (seen : Seen) (z : GoodScope n l) (t : 
   result {w} s = alloc_view (cleanly listed) s.base n l seen z t.low (told_clean t) w s.valid s.clean s.on
 
   -- THEOREM. It goes on with each block handed out ..
-  pub goes_on : {w : Lookahead} {out : List ℕ} (b : ℕ) → During n l listed w out → (alloc_of (scope n l) seen w).answer ≡ answer.Block b
+  pub goes_on : {w : Lookahead} {out : List ℕ} (b : ℕ) → During n l listed w out → (alloc_of (scope n l) seen w).answer ≡ Ok b
       → During n l listed (alloc_of (scope n l) seen w).window (b ∷ out)
   goes_on {w} {out} b s e = let r = result s in go r.valid r.says r.view e
     where
-      go : {q : Answer} {v : Lookahead} → ValidWindow v n l → CleanWindow n listed v → View (cleanly listed) s.base n seen.ok w.ckpoint q v → q ≡ answer.Block b → During n l listed v (b ∷ out)
+      go : {q : Answer} {v : Lookahead} → ValidWindow v n l → CleanWindow n listed v → View (cleanly listed) s.base n seen.ok w.ckpoint q v → q ≡ Ok b → During n l listed v (b ∷ out)
       go gv cv (handed {b = b'} h o) e =
           let same : b' ≡ b = block_eq b' b e in
           record {
@@ -108,7 +108,7 @@ module _ (n l : ℕ) (listed : List ℕ) (seen : Seen) (z : GoodScope n l) (t : 
       go gv cv (bad _ _ _) e = not_damaged b _ e
 
   -- .. each of which is new ..
-  pub new_block : {w : Lookahead} {out : List ℕ} (b : ℕ) → During n l listed w out → (alloc_of (scope n l) seen w).answer ≡ answer.Block b → New n listed out b
+  pub new_block : {w : Lookahead} {out : List ℕ} (b : ℕ) → During n l listed w out → (alloc_of (scope n l) seen w).answer ≡ Ok b → New n listed out b
   new_block {w} {out} b s e = go (goes_on b s e) (all_different (goes_on b s e))
     where
       here : has (b ∷ out) b ≡ true
@@ -128,10 +128,10 @@ module _ (n l : ℕ) (listed : List ℕ) (seen : Seen) (z : GoodScope n l) (t : 
       go g (bad _ c _) e = omega arith
 
   -- after -28 all that was said still holds
-  pub stays : {w : Lookahead} {out : List ℕ} → During n l listed w out → (alloc_of (scope n l) seen w).answer ≡ answer.NoSpace → During n l listed (alloc_of (scope n l) seen w).window out
+  pub stays : {w : Lookahead} {out : List ℕ} → During n l listed w out → (alloc_of (scope n l) seen w).answer ≡ Err refusal.NoSpace → During n l listed (alloc_of (scope n l) seen w).window out
   stays {w} {out} s e = let r = result s in go r.valid r.says r.view e
     where
-      go : {q : Answer} {v : Lookahead} → ValidWindow v n l → CleanWindow n listed v → View (cleanly listed) s.base n seen.ok w.ckpoint q v → q ≡ answer.NoSpace → During n l listed v out
+      go : {q : Answer} {v : Lookahead} → ValidWindow v n l → CleanWindow n listed v → View (cleanly listed) s.base n seen.ok w.ckpoint q v → q ≡ Err refusal.NoSpace → During n l listed v out
       go gv cv (handed _ _) e = let y : ◌≡◌ {A = ℕ} 0 1 = cc in absurd (omega arith)
       go gv cv (full c _ o) e =
           record { base = s.base; base_lt = s.base_lt; valid = gv; clean = cv; on = o; places = places_wider (omega arith) s.places; unlisted = s.unlisted }

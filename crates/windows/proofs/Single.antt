@@ -5,10 +5,9 @@ use mathlib.Core.List.{List}
 use Prim.Native.Nat.{ℕ, ◌+◌, ◌<◌}
 use native.Mathlib.Nat.{mod-lt}
 use Rattle.span.specs.Members.{has}
-use Rattle.window.specs.declared.Answer.{Answer}
-use Rattle.window.specs.declared.Answer.TheVariants as answer
+use Rattle.std.specs.Prelude.{Ok}
 use Rattle.window.specs.declared.Lookahead.{Lookahead}
-use Rattle.window.specs.Allocate.{alloc_of}
+use Rattle.window.specs.Allocate.{alloc_of, Answer}
 use Rattle.window.specs.Scan.{Seen}
 use Rattle.window.specs.inner.Facts.{ValidWindow, GoodScope, scope}
 use Rattle.windows.proofs.Views.{cleanly, View, handed, full, bad, Tells, CleanWindow}
@@ -17,11 +16,11 @@ use Rattle.windows.proofs.Answers.{block_eq, not_block, not_damaged}
 
 module _ {n l : ℕ} {listed : List ℕ} {seen : Seen} {w : Lookahead} (z : GoodScope n l) (g : ValidWindow w n l) (c : CleanWindow n listed w) (t : Tells n listed seen) where
   -- THEOREM. The block handed out is one of the card, and no file has it.
-  pub handed_out : {b : ℕ} → (alloc_of (scope n l) seen w).answer ≡ answer.Block b → (b < n) × (has listed b ≡ false)
+  pub handed_out : {b : ℕ} → (alloc_of (scope n l) seen w).answer ≡ Ok b → (b < n) × (has listed b ≡ false)
   handed_out {b} e =
       go (alloc_view (cleanly listed) _ n l seen z t.low (λ ok x. t.cover ok x) w g c (some_on n l w g)).view e
     where
-      go : {base : ℕ} {q : Answer} {v : Lookahead} → View (cleanly listed) base n seen.ok w.ckpoint q v → q ≡ answer.Block b
+      go : {base : ℕ} {q : Answer} {v : Lookahead} → View (cleanly listed) base n seen.ok w.ckpoint q v → q ≡ Ok b
           → (b < n) × (has listed b ≡ false)
       go {base} (handed {b = k} h o) e =
           let same : k ≡ b = block_eq k b e in (

@@ -7,11 +7,11 @@ use native.Mathlib.Nat.{mod-lt, mod-add-mod, add-mod_right}
 use native.Mathlib.Omega.{arith}
 use borrow.Author.Tests.{le-leb, lt-leb, leb-true, lt-ltb, le-ltb, ltb-true}
 use lib.Dec.{leb, ltb}
+use Rattle.layout.specs.declared.Refusal.TheVariants as refusal
 use Rattle.span.specs.Members.{has, bit_in}
-use Rattle.window.specs.declared.Answer.TheVariants as answer
-use Rattle.window.specs.declared.Answer.{Answer}
+use Rattle.std.specs.Prelude.{Ok, Err}
 use Rattle.window.specs.declared.Lookahead.{Lookahead}
-use Rattle.window.specs.Allocate.{alloc_of}
+use Rattle.window.specs.Allocate.{alloc_of, Answer}
 use Rattle.window.specs.Scan.{Seen, offset_in}
 use Rattle.window.specs.Value.{checkpoint_of, fresh_of}
 use Rattle.window.specs.inner.Facts.{ValidWindow, GoodScope, scope}
@@ -104,11 +104,11 @@ pub listed_used : (n l : ℕ) (listed : List ℕ) (w : Lookahead) → ValidWindo
 listed_used n l listed w g c b h e = clean_used n l listed w g c b h ∙ ap (λ (t : Bool). (t || marked_in n w b)) e
 
 module _ (n l : ℕ) (listed : List ℕ) (used : ℕ → Bool) (seen : Seen) (z : GoodScope n l) (t : Shows n listed seen) where
-  pub exact_goes : {w : Lookahead} {out : List ℕ} (b : ℕ) → ExactCall n l listed used w out → (alloc_of (scope n l) seen w).answer ≡ answer.Block b
+  pub exact_goes : {w : Lookahead} {out : List ℕ} (b : ℕ) → ExactCall n l listed used w out → (alloc_of (scope n l) seen w).answer ≡ Ok b
       → ExactCall n l listed used (alloc_of (scope n l) seen w).window (b ∷ out)
   exact_goes {w} {out} b s e = let r = view n l listed used seen z t s.base w s.knows in go r.0 (r.1 (ap is_block e)) e
     where
-      go : {q : Answer} {v : Lookahead} → View (exactly used) s.base n seen.ok w.ckpoint q v → (On s.base n v → Knows n l listed used s.base v) → q ≡ answer.Block b
+      go : {q : Answer} {v : Lookahead} → View (exactly used) s.base n seen.ok w.ckpoint q v → (On s.base n v → Knows n l listed used s.base v) → q ≡ Ok b
           → ExactCall n l listed used v (b ∷ out)
       go {v = v} (handed {b = b'} h o) kv e =
           let same : b' ≡ b = block_eq b' b e in
@@ -126,11 +126,11 @@ module _ (n l : ℕ) (listed : List ℕ) (used : ℕ → Bool) (seen : Seen) (z 
       go (bad _ _ _) kv e = absurd (not_damaged b ⊥ e)
 
   -- THEOREM. At -28 all the good blocks of the card that were not used were handed out, whichever are good.
-  pub exact_full : {w : Lookahead} {out : List ℕ} (good : ℕ → Bool) → ExactCall n l listed used w out → (alloc_of (scope n l) seen w).answer ≡ answer.NoSpace
+  pub exact_full : {w : Lookahead} {out : List ℕ} (good : ℕ → Bool) → ExactCall n l listed used w out → (alloc_of (scope n l) seen w).answer ≡ Err refusal.NoSpace
       → good_unused good n used ≡ good_in good out
   exact_full {w} {out} good s e = go (view n l listed used seen z t s.base w s.knows).0 e
     where
-      go : {q : Answer} {v : Lookahead} → View (exactly used) s.base n seen.ok w.ckpoint q v → q ≡ answer.NoSpace → good_unused good n used ≡ good_in good out
+      go : {q : Answer} {v : Lookahead} → View (exactly used) s.base n seen.ok w.ckpoint q v → q ≡ Err refusal.NoSpace → good_unused good n used ≡ good_in good out
       go (handed {b = b} h o) e = absurd (not_full b ⊥ e)
       go (full c p o) e =
           let i : good_in good (unused_from s.base n used w.ckpoint) ≡ 0 =
@@ -139,10 +139,10 @@ module _ (n l : ℕ) (listed : List ℕ) (used : ℕ → Bool) (seen : Seen) (z 
       go (bad _ _ _) e = let y : ◌≡◌ {A = ℕ} 0 1 = cc in absurd (omega arith)
 
   -- where no visit fails, no allocation is -84
-  pub never_damaged : {w : Lookahead} {out : List ℕ} → seen.ok ≡ true → ExactCall n l listed used w out → (alloc_of (scope n l) seen w).answer ≡ answer.Damaged → ⊥
+  pub never_damaged : {w : Lookahead} {out : List ℕ} → seen.ok ≡ true → ExactCall n l listed used w out → (alloc_of (scope n l) seen w).answer ≡ Err refusal.Damaged → ⊥
   never_damaged {w} ok s e = go (view n l listed used seen z t s.base w s.knows).0 e
     where
-      go : {q : Answer} {v : Lookahead} → View (exactly used) s.base n seen.ok w.ckpoint q v → q ≡ answer.Damaged → ⊥
+      go : {q : Answer} {v : Lookahead} → View (exactly used) s.base n seen.ok w.ckpoint q v → q ≡ Err refusal.Damaged → ⊥
       go (handed h o) e = let y : ◌≡◌ {A = ℕ} 0 1 = cc in omega arith
       go (full c p o) e = let y : ◌≡◌ {A = ℕ} 0 1 = cc in omega arith
       go (bad f _ _) e = no_both seen.ok ok f

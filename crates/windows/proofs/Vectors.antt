@@ -4,12 +4,11 @@ use mathlib.Core.Bool.{true, false}
 use mathlib.Core.List.{List, [], ◌∷◌}
 use Prim.Native.Nat.{ℕ, zero, suc}
 use lib.ListN.{replicate}
+use Rattle.layout.specs.declared.Refusal.TheVariants as refusal
 use Rattle.span.specs.Members.{has}
-use Rattle.window.specs.declared.Allocated.{Allocated}
-use Rattle.window.specs.declared.Answer.{Answer}
-use Rattle.window.specs.declared.Answer.TheVariants as answer
+use Rattle.std.specs.Prelude.{Ok, Err}
 use Rattle.window.specs.declared.Lookahead.{Lookahead}
-use Rattle.window.specs.Allocate.{alloc_by, alloc_of, skip, take_of}
+use Rattle.window.specs.Allocate.{alloc_by, alloc_of, skip, take_of, Answer, Allocated}
 use Rattle.window.specs.Scan.{mark_all, mark_map, Seen, cleared, scan_of}
 use Rattle.window.specs.Value.{fresh_of}
 use Rattle.window.specs.inner.Facts.{scope}
@@ -32,7 +31,7 @@ abbrev two : Allocated
 two = alloc_of (scope 10 8) some one.window
 
 -- listed 0, 1, 4: first 2, then 3, leaving next 5 and count 5
-listed : (one.answer ≡ answer.Block 2) × (two.answer ≡ answer.Block 3) × (two.window.next ≡ 5) × (two.window.ckpoint ≡ 5)
+listed : (one.answer ≡ Ok 2) × (two.answer ≡ Ok 3) × (two.window.next ≡ 5) × (two.window.ckpoint ≡ 5)
 unfolding alloc_of alloc_by take_of skip cleared mark_all mark_map scan_of
 listed = (refl, refl, refl, refl)
 
@@ -42,13 +41,13 @@ answers (suc k) w = (alloc_of (scope 10 8) free w).answer ∷ answers k (alloc_o
 
 -- all free, start 0: ten allocations give 0 to 9, the eleventh -28
 eleven : answers 11 (fresh_of (scope 10 8) 0)
-    ≡ answer.Block 0 ∷ answer.Block 1 ∷ answer.Block 2 ∷ answer.Block 3 ∷ answer.Block 4 ∷ answer.Block 5 ∷ answer.Block 6 ∷ answer.Block 7 ∷ answer.Block 8
-    ∷ answer.Block 9 ∷ answer.NoSpace ∷ []
+    ≡ Ok 0 ∷ Ok 1 ∷ Ok 2 ∷ Ok 3 ∷ Ok 4 ∷ Ok 5 ∷ Ok 6 ∷ Ok 7 ∷ Ok 8
+    ∷ Ok 9 ∷ Err refusal.NoSpace ∷ []
 unfolding alloc_of alloc_by take_of skip cleared mark_all mark_map scan_of
 eleven = refl
 
 -- a visit that fails: -84, dropped, the map as its steps marked it
-damaged : alloc_of (scope 10 8) broken (fresh_of (scope 10 8) 3) ≡ record { answer = answer.Damaged; window = record { map = 0 ∷ (2 ∷ replicate 62 0); start = 3; next = 0; size = 0; ckpoint = 10 } }
+damaged : alloc_of (scope 10 8) broken (fresh_of (scope 10 8) 3) ≡ record { answer = Err refusal.Damaged; window = record { map = 0 ∷ (2 ∷ replicate 62 0); start = 3; next = 0; size = 0; ckpoint = 10 } }
 unfolding alloc_of alloc_by take_of skip cleared mark_all mark_map scan_of
 damaged = refl
 

@@ -3,12 +3,11 @@ use mathlib.Core.Path.{◌≡◌}
 use mathlib.Core.Bool.{Bool, true, false}
 use mathlib.Core.List.{List, [], ◌∷◌}
 use Prim.Native.Nat.{ℕ, suc, ◌+◌, ◌-◌, ◌%◌, ◌<◌, ◌≤◌}
+use Rattle.layout.specs.declared.Refusal.TheVariants as refusal
 use Rattle.span.specs.Members.{has, bit_in}
-use Rattle.window.specs.declared.Allocated.{Allocated}
-use Rattle.window.specs.declared.Answer.TheVariants as answer
-use Rattle.window.specs.declared.Answer.{Answer}
+use Rattle.std.specs.Prelude.{Ok, Err}
 use Rattle.window.specs.declared.Lookahead.{Lookahead}
-use Rattle.window.specs.Allocate.{alloc_of}
+use Rattle.window.specs.Allocate.{alloc_of, Answer, Allocated}
 use Rattle.window.specs.Scan.{Seen}
 use Rattle.window.specs.Value.{checkpoint_of, fresh_of}
 use Rattle.window.specs.inner.Facts.{ValidWindow, scope}
@@ -57,9 +56,9 @@ pub record Handed (R : Claim) (base n c b d : ℕ) : Type 0 where
 
 -- what one allocation can answer, from the count c; ok says whether no visit fails
 pub data View (R : Claim) (base n : ℕ) (ok : Bool) (c : ℕ) : Answer → Lookahead → Type 0 where
-  handed : {b : ℕ} {v : Lookahead} → Handed R base n c b v.ckpoint → On base n v → View R base n ok c (answer.Block b) v
-  full : {v : Lookahead} → v.ckpoint ≡ 0 → PassedMarked R base n (n - c) n → On base n v → View R base n ok c answer.NoSpace v
-  bad : {v : Lookahead} → ok ≡ false → v.size ≡ 0 → v.ckpoint ≡ n → View R base n ok c answer.Damaged v
+  handed : {b : ℕ} {v : Lookahead} → Handed R base n c b v.ckpoint → On base n v → View R base n ok c (Ok b) v
+  full : {v : Lookahead} → v.ckpoint ≡ 0 → PassedMarked R base n (n - c) n → On base n v → View R base n ok c (Err refusal.NoSpace) v
+  bad : {v : Lookahead} → ok ≡ false → v.size ≡ 0 → v.ckpoint ≡ n → View R base n ok c (Err refusal.Damaged) v
 
 -- the same with what stays true of the window
 pub record Result (R : Claim) (base n l : ℕ) (ok : Bool) (c : ℕ) (a : Allocated) : Type 0 where
@@ -114,15 +113,13 @@ pub record New (n : ℕ) (listed out : List ℕ) (b : ℕ) : Type 0 where
   pub other : has out b ≡ false
 
 abbrev pub is_block : Answer → Bool
-is_block (answer.Block b) = true
-is_block answer.NoSpace = false
-is_block answer.Damaged = false
-is_block answer.Refused = false
+is_block (Ok b) = true
+is_block (Err e) = false
 
 -- allocations one after the other from w, each of which handed out a block (the last first); the visits may be told anew each time
 pub data Allocations (n l : ℕ) (listed : List ℕ) (w : Lookahead) : List ℕ → Lookahead → Type 0 where
   start : Allocations n l listed w [] w
-  more : {out : List ℕ} {v : Lookahead} (b : ℕ) (seen : Seen) → Allocations n l listed w out v → Tells n listed seen → (alloc_of (scope n l) seen v).answer ≡ answer.Block b
+  more : {out : List ℕ} {v : Lookahead} (b : ℕ) (seen : Seen) → Allocations n l listed w out v → Tells n listed seen → (alloc_of (scope n l) seen v).answer ≡ Ok b
       → Allocations n l listed w (b ∷ out) (alloc_of (scope n l) seen v).window
 
 -- CAME FROM STORE CALLS, as the window sees it: what is listed now, and the window

@@ -1,8 +1,11 @@
--- `alloc::alloc` meets its contract: each test that led to a return settles the answer. Assumes nothing.
+-- `alloc::alloc` meets its contract: the tests settle the answer, and behind them it is that of the inner allocation. Assumes nothing.
 use mathlib.Core.Path.{sym, ◌∙◌}
+use native.Mathlib.Omega.{arith}
+use Rattle.std.proofs.lemmas.Bool.Decides.{nat_tests}
 use Rattle.card.proofs.Cards.{card}
 use Rattle.window.proofs.Valid.{looks}
-use Rattle.alloc.proofs.Tested.{no_card, no_lookahead, no_window, no_table, tested, ready}
+use Rattle.alloc.specs.Allocate.{allocate_of}
+use Rattle.alloc.proofs.Tested.{ready}
 use Rattle.alloc.proofs.alloc.Goals as goal
 
 pub valid_window-requires : goal.valid_window-requires
@@ -16,23 +19,9 @@ alloc_in-requires c =
     (sym c.valid_window.ensures ∙ c.if-valid_window.true) (sym c.valid_table.ensures ∙ c.if-valid_table.true)
 
 pub returns-then-valid_table : goal.returns-then-valid_table
-returns-then-valid_table c =
-    tested _ _ _ _ _ _ (sym c.good_card.ensures ∙ c.if-good_card.true) (sym c.valid_lookahead.ensures ∙ c.if-valid_lookahead.true)
-    (sym c.valid_window.ensures ∙ c.if-valid_window.true) (sym c.valid_table.ensures ∙ c.if-valid_table.true) c.alloc_in.ensures
+unfolding allocate_of
+returns-then-valid_table c = grind (arith, nat_tests)
 
-pub returns-else-valid_table : goal.returns-else-valid_table
-returns-else-valid_table c =
-    no_table _ _ _ _ _ _ (sym c.good_card.ensures ∙ c.if-good_card.true) (sym c.valid_lookahead.ensures ∙ c.if-valid_lookahead.true)
-    (sym c.valid_window.ensures ∙ c.if-valid_window.true) (sym c.valid_table.ensures ∙ c.if-valid_table.false)
-
-pub returns-else-valid_window : goal.returns-else-valid_window
-returns-else-valid_window c =
-    no_window _ _ _ _ _ _ (sym c.good_card.ensures ∙ c.if-good_card.true) (sym c.valid_lookahead.ensures ∙ c.if-valid_lookahead.true)
-    (sym c.valid_window.ensures ∙ c.if-valid_window.false)
-
-pub returns-else-valid_lookahead : goal.returns-else-valid_lookahead
-returns-else-valid_lookahead c =
-    no_lookahead _ _ _ _ _ _ (sym c.good_card.ensures ∙ c.if-good_card.true) (sym c.valid_lookahead.ensures ∙ c.if-valid_lookahead.false)
-
-pub returns-else-good_card : goal.returns-else-good_card
-returns-else-good_card c = no_card _ _ _ _ _ _ (sym c.good_card.ensures ∙ c.if-good_card.false)
+pub returns : goal.returns
+unfolding allocate_of
+returns c = grind (arith, nat_tests)

@@ -1,8 +1,9 @@
 -- `alloc::alloc_in` meets its contract: what is left of the allocation, from the window as it stands, comes to what the whole one does; the count bounds the
 -- searches. Assumes nothing.
+use native.Mathlib.Omega.{arith}
 use Rattle.window.proofs.Valid.{good}
 use Rattle.window.proofs.Kept.{take_valid}
-use Rattle.alloc.proofs.Turning.{allocating, answers_block, answers_none, answers_damaged, less_left, allocates_on}
+use Rattle.alloc.proofs.Turning.{allocating, answers_block, answers_refused, less_left, allocates_on}
 use Rattle.alloc.proofs.alloc_in.Goals as goal
 
 pub loop-block-init : goal.loop-block-init
@@ -11,13 +12,9 @@ loop-block-init c = allocating _ _ _ _ c.requires.window
 pub take-taken-requires : goal.take-taken-requires
 take-taken-requires c = good _ _ _ c.requires.sizes c.loop-block.invariant.valid
 
-pub returns-in-Block : goal.returns-in-Block
-returns-in-Block c =
-    answers_block _ _ _ _ c.loop-block.invariant c.take-taken.ensures c.in-Block.is
-
-pub returns-then-after-eq0 : goal.returns-then-after-eq0
-returns-then-after-eq0 c =
-    answers_none _ _ _ _ c.loop-block.invariant c.take-taken.ensures c.in-Empty.is c.if-after-eq0.true
+pub returns-in-Some : goal.returns-in-Some
+returns-in-Some c =
+    answers_block _ _ _ _ c.loop-block.invariant c.take-taken.ensures c.in-Some.is
 
 pub alloc_scan-scan-requires : goal.alloc_scan-scan-requires
 alloc_scan-scan-requires c =
@@ -29,17 +26,17 @@ alloc_scan-scan-requires c =
       table = p.table;
     }
 
+pub returns-in-Err : goal.returns-in-Err
+returns-in-Err c =
+    answers_refused _ _ _ _ c.loop-block.invariant c.take-taken.ensures c.in_default.is (λ e. omega arith) c.alloc_scan-scan.ensures _
+    c.in-Err.is
+
 pub loop-block-smaller : goal.loop-block-smaller
 loop-block-smaller c =
-    less_left _ _ _ _ c.loop-block.invariant c.take-taken.ensures c.in-Empty.is c.if-after-eq0.false c.alloc_scan-scan.ensures
-    c.if-scan.true c.requires.sizes
+    less_left _ _ _ _ c.loop-block.invariant c.take-taken.ensures c.in_default.is (λ e. omega arith) c.alloc_scan-scan.ensures
+    c.in_default-answer.is c.requires.sizes
 
 pub loop-block-preserved : goal.loop-block-preserved
 loop-block-preserved c =
-    allocates_on _ _ _ _ c.loop-block.invariant c.take-taken.ensures c.in-Empty.is c.if-after-eq0.false c.alloc_scan-scan.ensures
-    c.if-scan.true c.requires.sizes
-
-pub returns-else-scan : goal.returns-else-scan
-returns-else-scan c =
-    answers_damaged _ _ _ _ c.loop-block.invariant c.take-taken.ensures c.in-Empty.is c.if-after-eq0.false c.alloc_scan-scan.ensures
-    c.if-scan.false
+    allocates_on _ _ _ _ c.loop-block.invariant c.take-taken.ensures c.in_default.is (λ e. omega arith) c.alloc_scan-scan.ensures
+    c.in_default-answer.is c.requires.sizes

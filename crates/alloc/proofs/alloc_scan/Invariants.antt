@@ -1,11 +1,8 @@
 -- `alloc::alloc_scan` meets its contract: what is left of the scan, from the window as it stands, comes to what the whole scan does. Assumes nothing.
-use Prim.Native.Nat.{◌-◌, ◌≤◌, ◌<◌}
-use lib.ListN.{length}
+use Prim.Native.Nat.{◌≤◌, ◌<◌}
+use Rattle.files.specs.Table.{held}
 use Rattle.alloc.proofs.Scanning.{Scanning}
 use Rattle.alloc.proofs.alloc_scan.Given as goal
 
-abbrev pub invariant-loop-i : goal.invariant-loop-i
-invariant-loop-i l = (Scanning l.b l.n l.image l.t.files l.count l.start l.size l.initial.v l.i l.v) × (l.start < l.n) × (l.size ≤ 512) × (l.count ≤ length l.t.files)
-
-abbrev pub decreases-loop-i : goal.decreases-loop-i
-decreases-loop-i l = l.count - l.i
+abbrev pub invariant-loop-file : goal.invariant-loop-file
+invariant-loop-file l = record { scan : Scanning l.b l.n l.image (held l.fn.t) l.start l.size l.initial.window l.file-index l.window; start_lt : l.start < l.n; size_le : l.size ≤ 512 }

@@ -1,12 +1,13 @@
 -- What the inner steps of an allocation ask for and do.
-use Rattle.std.specs.Prelude.{◌≡◌, Bool, true, List, ℕ, ◌≤◌, ◌<◌}
+use Rattle.std.specs.Prelude.{◌≡◌, true, List, ℕ, ◌≤◌, ◌<◌, Result}
+use Rattle.layout.specs.declared.Refusal.{Refusal}
 use Rattle.layout.specs.Numbers.{size_max}
 use Rattle.card.specs.inner.Cards.{CardFacts}
 use Rattle.files.specs.declared.Entry.{Entry}
 use Rattle.files.specs.declared.Table.{Table}
 use Rattle.files.specs.Table.{table_ok}
 use Rattle.window.specs.declared.Lookahead.{Lookahead}
-use Rattle.window.specs.Scan.{Seen, mark_all}
+use Rattle.window.specs.Scan.{Seen, mark_all, visit_answer}
 use Rattle.window.specs.inner.Facts.{ValidWindow, GoodScope, window_on}
 
 -- behind the tests: a card with N and L as they should be, a window that is not refused, and a table
@@ -23,7 +24,7 @@ pub record FileAsked (start size B N len : ℕ) (e : Entry) : Type 0 where
   pub size_le : size ≤ 512
   pub bytes_le : e.size ≤ size_max
 
--- what it does to the map: each block handed over is marked; and its answer: whether the visit came to its end
-pub record FileMarked (start size N : ℕ) (seen : Seen) (before after : List ℕ) (clean : Bool) : Type 0 where
+-- what it does to the map: each block handed over is marked; and its answer: -84 where the visit met that
+pub record FileMarked (start size N : ℕ) (seen : Seen) (before after : List ℕ) (answer : Result Unit Refusal) : Type 0 where
   pub marks : after ≡ mark_all N (window_on start size before) seen.blocks
-  pub ends : clean ≡ seen.ok
+  pub ends : answer ≡ visit_answer seen.ok

@@ -4,4 +4,4 @@ use Rattle.window.proofs.cleared.Goals as goal
 
 pub returns : goal.returns
 unfolding cleared
-returns c = simp c.smaller.ensures
+returns c = simp c.min.ensures

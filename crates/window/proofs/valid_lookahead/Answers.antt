@@ -1,16 +1,13 @@
--- `window::valid_lookahead` meets its contract: each test that led to a return settles a part. Assumes nothing.
-use borrow.Author.Tests.{le-leb, lt-leb}
+-- `window::valid_lookahead` meets its contract: the tests are those of the definition. Assumes nothing.
+use native.Mathlib.Omega.{arith}
+use Rattle.std.proofs.lemmas.Bool.Decides.{nat_tests}
 use Rattle.window.specs.Value.{lookahead_fits}
 use Rattle.window.proofs.valid_lookahead.Goals as goal
 
-pub returns-then-l-lt8 : goal.returns-then-l-lt8
+pub returns-then-contains : goal.returns-then-contains
 unfolding lookahead_fits
-returns-then-l-lt8 c = simp (lt-leb _ _ c.if-l-lt8.true)
+returns-then-contains c = grind (arith, nat_tests)
 
-pub returns-then-l-gt64 : goal.returns-then-l-gt64
+pub returns-else-contains : goal.returns-else-contains
 unfolding lookahead_fits
-returns-then-l-gt64 c = simp (le-leb _ _ c.if-l-lt8.false, lt-leb _ _ c.if-l-gt64.true)
-
-pub returns : goal.returns
-unfolding lookahead_fits
-returns c = simp (le-leb _ _ c.if-l-lt8.false, le-leb _ _ c.if-l-gt64.false)
+returns-else-contains c = grind (arith, nat_tests)

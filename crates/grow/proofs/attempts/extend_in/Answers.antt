@@ -8,16 +8,16 @@ use Rattle.grow.proofs.attempts.extend_in.Goals as goal
 
 pub bounds-health-k : goal.bounds-health-k
 bounds-health-k c =
-    let k = block_linking c.requires (rest_start c.requires c.args.head) (held c.requires c.take-taken.ensures c.in-Block.is) refl in
+    let k = block_linking c.requires (rest_start c.requires c.args.head) (held c.requires c.take-taken.ensures c.in-Some.is) refl in
     omega (arith, k.block, c.requires.known)
 
 pub try_block-linked-requires : goal.try_block-linked-requires
 try_block-linked-requires c =
-    (block_linking c.requires (rest_start c.requires c.args.head) (held c.requires c.take-taken.ensures c.in-Block.is) refl, c.requires.fits)
+    (block_linking c.requires (rest_start c.requires c.args.head) (held c.requires c.take-taken.ensures c.in-Some.is) refl, c.requires.fits)
 
 pub returns-in-Done : goal.returns-in-Done
 returns-in-Done c =
-    ends_done c.requires (rest_start c.requires c.args.head) (held c.requires c.take-taken.ensures c.in-Block.is) refl
+    ends_done c.requires (rest_start c.requires c.args.head) (held c.requires c.take-taken.ensures c.in-Some.is) refl
     c.try_block-linked.ensures _ c.in-Done.is
 
 pub returns-in-Spoiled : goal.returns-in-Spoiled

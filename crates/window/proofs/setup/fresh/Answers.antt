@@ -1,17 +1,13 @@
--- `window::setup::fresh` meets its contract: each test that led to a return settles the reply. Assumes nothing.
-use mathlib.Core.Path.{sym, ◌∙◌}
-use borrow.Author.Tests.{lt-ltb, le-ltb}
+-- `window::setup::fresh` meets its contract: the tests settle the reply. Assumes nothing.
+use native.Mathlib.Omega.{arith}
+use Rattle.std.proofs.lemmas.Bool.Decides.{nat_tests}
 use Rattle.window.specs.Value.{fresh_reply}
 use Rattle.window.proofs.setup.fresh.Goals as goal
 
 pub returns-then-start-n : goal.returns-then-start-n
 unfolding fresh_reply
-returns-then-start-n c = rw (sym c.valid_sizes.ensures ∙ c.if-valid_sizes.true, lt-ltb _ _ c.if-start-n.true)
+returns-then-start-n c = grind (arith, nat_tests)
 
-pub returns-else-start-n : goal.returns-else-start-n
+pub returns : goal.returns
 unfolding fresh_reply
-returns-else-start-n c = rw (sym c.valid_sizes.ensures ∙ c.if-valid_sizes.true, le-ltb _ _ c.if-start-n.false)
-
-pub returns-else-valid_sizes : goal.returns-else-valid_sizes
-unfolding fresh_reply
-returns-else-valid_sizes c = rw (sym c.valid_sizes.ensures ∙ c.if-valid_sizes.false)
+returns c = grind (arith, nat_tests)
