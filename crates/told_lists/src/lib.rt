@@ -64,7 +64,7 @@ pub fn found_told(f: Result<Found, Refusal>) -> TidFind
 
 // A visit's place; `held` is 0 or not.
 #[repr(C)]
-#[derive(Clone, Copy)]
+#[derive(Clone, Copy, Debug, PartialEq, Eq)]
 pub struct TidPlace {
     pub index: u32,
     pub block: u32,
@@ -107,7 +107,7 @@ fn next_told(v: Visit) -> TidPlace
 
 // How a visit begins: `more` is 1 where the list has blocks, and `place` is where to go on.
 #[repr(C)]
-#[derive(Clone, Copy)]
+#[derive(Clone, Copy, Debug, PartialEq, Eq)]
 pub struct TidVisit {
     pub code: i32,
     pub more: u32,
@@ -138,7 +138,7 @@ pub fn begun_told(b: Result<Option<Visit>, Refusal>) -> TidVisit
 
 // A step of a visit: the block handed over; `more` is 1 where indexes are left, and `place` is where to go on.
 #[repr(C)]
-#[derive(Clone, Copy)]
+#[derive(Clone, Copy, Debug, PartialEq, Eq)]
 pub struct TidStep {
     pub code: i32,
     pub block: u32,
@@ -174,7 +174,7 @@ pub fn step_told(s: Result<Step, Refusal>) -> TidStep
 // The first fault of a list: kind 0 is none; 1 a number not below the block count, 2 a number met before, 3 a further pointer that disagrees, 4 an empty
 // list whose head is not null.
 #[repr(C)]
-#[derive(Clone, Copy)]
+#[derive(Clone, Copy, Debug, PartialEq, Eq)]
 pub struct TidCheck {
     pub code: i32,
     pub kind: u32,
