@@ -107,14 +107,12 @@ pub fn table(list: &[u8], at: usize) -> Table
     if Table::MOST < count {
         return t;
     }
-    let mut i: u32 = 0;
-    while i < count {
+    for i in 0..count {
         t.files[i as usize] = Entry {
             number: i,
             size: word(list, at, 2 * i + 1),
             head: word(list, at, 2 * i + 2),
         };
-        i += 1;
     }
     t.count = count;
     t

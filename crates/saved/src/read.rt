@@ -26,10 +26,8 @@ fn last_group(value: u64, scale: u64, b: u64, limit: u32, next: usize) -> Option
     requires { Scaled value scale × (b < 128) }
     ensures { result ≡ last_of value scale b limit next }
 {
-    if 1 < scale {
-        if b == 0 {
-            return None;
-        }
+    if 1 < scale && b == 0 {
+        return None;
     }
     let whole = value + scale * b;
     if whole <= limit as u64 {

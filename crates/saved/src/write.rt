@@ -11,6 +11,7 @@ use files::{Entry, Table};
 fn number_length(n: u32) -> u32
     ensures { Counted (groups n) 5 result }
 {
+    // The loop ends by what is left of the number, so no range counts its groups.
     let mut m = n;
     let mut k: u32 = 1;
     while 128 <= m {
@@ -48,6 +49,7 @@ fn write_number(buffer: &mut [u8], at: usize, n: u32) -> usize
     requires { at + length (groups n) ≤ length buffer.old }
     ensures { (result ≡ at + length (groups n)) × (buffer.new ≡ sets buffer.old at (groups n)) }
 {
+    // The loop ends by what is left of the number, so no range counts its groups.
     let mut m = n;
     let mut i = at;
     while 128 <= m {
