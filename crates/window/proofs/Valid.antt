@@ -1,15 +1,12 @@
 -- The tests of a window and of N and L, as facts. Assumes nothing.
 use mathlib.Core.Path.{◌≡◌, refl}
 use mathlib.Core.Bool.{Bool, true, false, ◌&&◌, and-eq-true_iff}
-use Prim.Native.Nat.{ℕ, ◌-◌, ◌*◌, ◌≤◌, ◌<◌, min}
+use Prim.Native.Nat.{ℕ, ◌*◌, ◌≤◌, ◌<◌, min}
 use native.Mathlib.Nat.{min-le_left, min-le_right, le_trans, le-min}
 use native.Mathlib.Omega.{arith}
-use borrow.Author.Tests.{ltb-true, leb-true, lt-ltb, le-ltb, le-leb, lt-leb}
-use lib.Dec.{leb}
+use borrow.Author.Tests.{ltb-true, leb-true, lt-ltb, le-leb}
 use Rattle.layout.specs.declared.Geometry.{Geometry}
-use Rattle.std.specs.Prelude.{Result}
 use Rattle.std.specs.Result.{is_ok}
-use Rattle.layout.specs.declared.Refusal.{Refusal}
 use Rattle.layout.specs.Geometry.{size_fits, count_fits, card_fits}
 use Rattle.layout.specs.inner.Served.{geometry}
 use Rattle.layout.specs.inner.Made.{made_of, pick_made}
@@ -80,6 +77,6 @@ made_told true g = refl
 made_told false g = refl
 
 -- whether `Geometry::new` makes one, and the test of L
-pub sizes_told : (g : Geometry) (l : ℕ) {r : Result Geometry Refusal} → r ≡ made_of (geometry g.block_size g.block_count) → is_ok r && lookahead_fits l ≡ sizes_fit g l
+pub sizes_told : (g : Geometry) (l : ℕ) → sizes_fit g l ≡ (is_ok (made_of (geometry g.block_size g.block_count)) && lookahead_fits l)
 unfolding sizes_fit
-sizes_told g l e = rw (e, made_told (card_fits g) g)
+sizes_told g l = rw (made_told (card_fits g) g)

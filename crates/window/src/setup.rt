@@ -7,6 +7,7 @@ use crate::{Lookahead, Windowed};
 use layout::{Geometry, Refusal};
 
 // Whether geometry and lookahead are right.
+#[tactic(auto, using(crate::proofs::Valid::sizes_told, std::proofs::lemmas::Bool::Decides::nat_tests))]
 pub fn valid_sizes(g: Geometry, l: u32) -> bool
     ensures { result ≡ sizes_fit g l }
 {

@@ -9,8 +9,11 @@ returns-then-not-bit c =
     sym (c.loop-o.invariant.rest ∙ free_clear _ _ _ c.loop-o-test.true (sym c.bit.ensures ∙ c.if-not-bit.true))
 
 pub loop-o-preserved : goal.loop-o-preserved
-loop-o-preserved c = record { within = omega arith; rest =
-    c.loop-o.invariant.rest ∙ free_marked _ _ _ c.loop-o-test.true (sym c.bit.ensures ∙ c.if-not-bit.false) }
+loop-o-preserved c = record {
+  within = omega arith;
+  rest =
+      c.loop-o.invariant.rest ∙ free_marked _ _ _ c.loop-o-test.true (sym c.bit.ensures ∙ c.if-not-bit.false);
+}
 
 pub returns : goal.returns
 returns c =
