@@ -1,7 +1,7 @@
 // The health bytes of a card, one a block: whether they are valid, and what a block refuses by its byte.
 #![tactic(auto)]
 
-ghost use Rattle.std.specs.Prelude.{◌≡◌, ◌+◌, ◌*◌, ◌≤◌, ◌<◌, leb, length, drop};
+ghost use Rattle.std.specs.Prelude.{◌≡◌, ◌+◌, ◌*◌, ◌≤◌, ◌<◌, leb, length};
 ghost use Rattle.health.specs.Health.{each_valid, health_ok, refuses_erase, refuses_program};
 ghost use Rattle.health.specs.inner.Bounds.{or_four, NoneAbove};
 
@@ -21,26 +21,20 @@ fn merged(health: &[u8], q: usize) -> u8
 {
     let mut low: u8 = 0;
     let mut high: u8 = 0;
-    let mut i: usize = 0;
-    while i < q {
+    for i in 0..q {
         low = with_four(low, health, i, q);
         high = with_four(high, health, 4 * q + i, q);
-        i += 1;
     }
     low | high
 }
 
-// The largest byte from `from` on: it is valid where all of them are.
-fn worst(health: &[u8], from: usize) -> u8
-    ensures { leb result 2 ≡ each_valid (drop from health.now) }
+// The largest byte: it is valid where all of them are.
+fn worst(health: &[u8]) -> u8
+    ensures { leb result 2 ≡ each_valid health.now }
 {
     let mut most: u8 = 0;
-    let mut i = from;
-    while i < health.len() {
-        if most < health[i] {
-            most = health[i];
-        }
-        i += 1;
+    for h in health {
+        most = most.max(*h);
     }
     most
 }
@@ -55,9 +49,9 @@ pub fn good_health(health: &[u8], n: u32) -> bool
     }
     let q = health.len() / 8;
     if merged(health, q) <= 2 {
-        return worst(health, 8 * q) <= 2;
+        return worst(&health[8 * q..]) <= 2;
     }
-    worst(health, 0) <= 2
+    worst(health) <= 2
 }
 
 // Whether block `k` refuses an erase.
