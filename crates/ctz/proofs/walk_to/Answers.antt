@@ -7,15 +7,19 @@ use native.Mathlib.Omega.{arith}
 use Rattle.ctz.proofs.Room.{asked}
 use Rattle.ctz.proofs.Walked.{walk_at, walk_hop, pick_stored, pick_width, jump_down}
 use Rattle.ctz.proofs.walk_to.Goals as goal
+use Rattle.ctz.proofs.walk_to.Goals.{After-power-cur}
+
+-- a hop leads down, and not past the target
+falls : (c : After-power-cur) → (0 < c.power-cur.result) × (c.args.tgt + c.power-cur.result ≤ c.hop.cur)
+falls c =
+    jump_down c.hop.cur c.args.tgt _ _ c.skip-x.ensures c.power-cur.ensures c.if-cur-tgt.false
+    (omega (arith, c.hop.invariant.0, c.ranges.top.fits))
 
 pub hop-init : goal.hop-init
 hop-init c = (omega arith, rw sub-zero refl)
 
 pub returns-then-cur-tgt : goal.returns-then-cur-tgt
 returns-then-cur-tgt c = sym (c.hop.invariant.1 ∙ walk_at _ _ _ _ _ _ _ _ (omega arith) c.if-cur-tgt.true)
-
-pub skip-x-requires : goal.skip-x-requires
-skip-x-requires c = c.if-cur-tgt.false
 
 pub pointer-block-requires : goal.pointer-block-requires
 pointer-block-requires c =
@@ -31,30 +35,18 @@ power-cur-requires c =
 
 pub overflow_sub-cur : goal.overflow_sub-cur
 overflow_sub-cur c =
-    let falls : (0 < c.power-cur.result) × (c.args.tgt + c.power-cur.result ≤ c.hop.cur) =
-    let l = c.hop in
-    jump_down l.cur c.args.tgt _ _ c.skip-x.ensures c.power-cur.ensures c.if-cur-tgt.false
-    (omega (arith, l.invariant.0, c.ranges.top.fits)) in
-    omega (arith, falls)
-
-pub overflow_add-hops : goal.overflow_add-hops
-overflow_add-hops c = omega arith
+    let down = falls (goal.at.overflow_sub-cur c).After-power-cur in
+    omega (arith, down)
 
 pub hop-smaller : goal.hop-smaller
 hop-smaller c =
-    let falls : (0 < c.power-cur.result) × (c.args.tgt + c.power-cur.result ≤ c.hop.cur) =
-    let l = c.hop in
-    jump_down l.cur c.args.tgt _ _ c.skip-x.ensures c.power-cur.ensures c.if-cur-tgt.false
-    (omega (arith, l.invariant.0, c.ranges.top.fits)) in
-    omega (arith, falls)
+    let down = falls (goal.at.hop-smaller c).After-power-cur in
+    omega (arith, down)
 
 pub hop-preserved : goal.hop-preserved
 hop-preserved c =
-    let falls : (0 < c.power-cur.result) × (c.args.tgt + c.power-cur.result ≤ c.hop.cur) =
+    let down = falls (goal.at.hop-preserved c).After-power-cur in
     let l = c.hop in
-    jump_down l.cur c.args.tgt _ _ c.skip-x.ensures c.power-cur.ensures c.if-cur-tgt.false
-    (omega (arith, l.invariant.0, c.ranges.top.fits)) in
-    let l = c.hop in
-    let fuel : c.args.top - l.hops ≡ suc (c.args.top - (l.hops + 1)) = omega (arith, falls) in
+    let fuel : c.args.top - l.hops ≡ suc (c.args.top - (l.hops + 1)) = omega (arith, down) in
     let one : suc l.hops ≡ l.hops + 1 = omega arith in
-    (omega (arith, falls), l.invariant.1 ∙ walk_hop _ _ _ _ _ _ _ _ (omega arith) c.if-cur-tgt.false ∙ cc)
+    (omega (arith, down), l.invariant.1 ∙ walk_hop _ _ _ _ _ _ _ _ (omega arith) c.if-cur-tgt.false ∙ cc)

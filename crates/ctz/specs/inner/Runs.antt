@@ -35,7 +35,7 @@ abbrev pub RunLost : (ℕ → ℕ → ℕ) → ℕ → ℕ → ℕ → ℕ → �
 RunLost ptr N head top first count = (j : ℕ) × ((j < count) × (seek ptr N head top (first + j) ≡ Err Damaged))
 
 -- A run of `count` indexes from `first` on: all are found, and `blocks` begins with their blocks; or some lookup meets -84.
-pub record RunGives (ptr : ℕ → ℕ → ℕ) (N head top first count room : ℕ) (whole : Result Unit Refusal) (blocks : List ℕ) : Type 0 where
+pub record RunGives (ptr : ℕ → ℕ → ℕ) (N head top first count room : ℕ) (whole : Result (Unit {0}) Refusal) (blocks : List ℕ) : Type 0 where
   pub long : length blocks ≡ room
   pub found : whole ≡ Ok tt → (j : ℕ) → j < count → Finds ptr N head top (first + j) (get_or blocks j 0)
   pub lost : (e : Refusal) → whole ≡ Err e → (e ≡ Damaged) × RunLost ptr N head top first count
