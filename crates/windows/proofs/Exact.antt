@@ -6,8 +6,6 @@ use Prim.Native.Nat.{ℕ, zero, suc, ◌+◌, ◌-◌, ◌%◌, ◌≤◌, ◌<�
 use native.Mathlib.Omega.{arith}
 use borrow.Author.Tests.{le-leb, lt-leb, leb-true, leb-false}
 use lib.Dec.{leb}
-use Rattle.layout.specs.declared.Refusal.TheVariants as refusal
-use Rattle.std.specs.Prelude.{Ok, Err}
 use Rattle.window.specs.declared.Lookahead.{Lookahead}
 use Rattle.window.specs.Allocate.{alloc_of, Answer}
 use Rattle.window.specs.Scan.{Seen}
