@@ -1,16 +1,18 @@
 -- What a word, a part and a map are, by whether their bytes are all in the list. Assumes nothing.
 use mathlib.Core.Path.{◌≡◌, refl, sym, ap, ◌∙◌}
-use mathlib.Core.Bool.{true, false}
+use mathlib.Core.Bool.{Bool, true, false}
 use mathlib.Core.List.{List, []}
 use Prim.Native.Nat.{ℕ, suc, ◌+◌, ◌-◌, ◌*◌, ◌≤◌, ◌<◌}
 use native.Mathlib.Nat.{add-sub_cancel_left}
 use native.Mathlib.Omega.{arith}
-use borrow.Author.Tests.{le-leb, lt-leb, lt-ltb, le-ltb}
+use borrow.Author.Tests.{le-leb, lt-leb}
 use lib.ListN.{length, take, drop, replicate, length-drop}
 use lib.Seq.{sets, take_all, length-take-le}
-use lib.IntN.{negsuc}
+use lib.IntN.{ℤ, negsuc}
+use lib.Dec.{ltb}
 use mir.Syntax.{w32}
-use mir.Val.{to_z}
+use mir.Val.{to_z, of_z}
+use mir.Facts.{of_z-to_z}
 use Rattle.span.specs.Words.{word_at}
 use Rattle.span.proofs.Parts.{sets_over}
 use Rattle.files.proofs.Tests.{leb_cases}
@@ -54,13 +56,18 @@ module _ (list : List ℕ) (at : ℕ) where
       e
 
 -- two's complement
-pub signed_low : (x : ℕ) → x < 2147483648 → to_z w32 x ≡ signed_of x
+signed_word : (x : ℕ) → x < 4294967296 → to_z w32 x ≡ signed_of x
 unfolding signed_of
-signed_low x h = rw (signed_of, lt-ltb x 2147483648 h)
+signed_word x l = go (ltb x 2147483648) refl
+  where
+    go : (b : Bool) → ltb x 2147483648 ≡ b → to_z w32 x ≡ signed_of x
+    go true q = rw (signed_of, q)
+    go false q =
+        let f : 4294967296 - suc x ≡ 4294967295 - x = omega arith in
+        rw (signed_of, q) (ap negsuc f)
 
-pub signed_high : (x : ℕ) → 2147483648 ≤ x → x < 4294967296 → to_z w32 (4294967295 - (4294967295 - x)) ≡ signed_of x
-unfolding signed_of
-signed_high x h l =
-    let e : 4294967295 - (4294967295 - x) ≡ x = omega arith in
-    let f : 4294967296 - suc x ≡ 4294967295 - x = omega arith in
-    rw (e, signed_of, le-ltb x 2147483648 h) (ap negsuc f)
+-- the answer of the cast, read back from its bits
+pub signed_is : {x : ℕ} {z : ℤ} → x < 4294967296 → z ≡ to_z w32 x → to_z w32 (of_z w32 z) ≡ signed_of x
+signed_is {x} {z} l e =
+    let same : of_z w32 (to_z w32 x) ≡ x = of_z-to_z {w = w32} {n = x} (record { fits = l }) in
+    rw (e, same) (signed_word x l)

@@ -7,19 +7,14 @@ use crate::word;
 use window::Lookahead;
 
 // Whether these are the four words of the answer.
+#[tactic(auto, unfolding(crate::specs::Agreement::told_of))]
 pub fn told(list: &[u8], at: usize, code: u32, first: u32, second: u32, third: u32) -> bool
     ensures { result ≡ told_of list.now at code first second third }
 {
-    if code != word(list, at, 0) {
-        return false;
-    }
-    if first != word(list, at, 1) {
-        return false;
-    }
-    if second != word(list, at, 2) {
-        return false;
-    }
-    third == word(list, at, 3)
+    code == word(list, at, 0)
+        && first == word(list, at, 1)
+        && second == word(list, at, 2)
+        && third == word(list, at, 3)
 }
 
 // Bit `o` of a map; 0 past its end.
@@ -27,54 +22,40 @@ fn bit(map: [u8; 64], o: u32) -> u8
     ensures { result ≡ bit_at map o }
 {
     let i = (o / 8) as usize;
-    if i < 64 {
-        return (map[i] >> ((o % 8) as u8)) % 2;
+    if i < map.len() {
+        map[i] >> (o % 8) & 1
+    } else {
+        0
     }
-    0
 }
 
 // Whether two maps agree from bit `next` on.
 fn same_map(ours: [u8; 64], theirs: [u8; 64], next: u32) -> bool
     ensures { result ≡ maps_agree ours theirs next }
 {
-    let mut o = next;
-    while o < 512 {
+    for o in next..512 {
         if bit(ours, o) != bit(theirs, o) {
             return false;
         }
-        o += 1;
     }
     true
 }
 
 // Whether two windows agree: all numbers, and the map of the blocks that are not passed yet.
+#[tactic(auto, unfolding(crate::specs::Agreement::windows_agree))]
 pub fn same_window(ours: Lookahead, theirs: Lookahead) -> bool
     ensures { result ≡ windows_agree ours theirs }
 {
-    if ours.start != theirs.start {
-        return false;
-    }
-    if ours.next != theirs.next {
-        return false;
-    }
-    if ours.size != theirs.size {
-        return false;
-    }
-    if ours.ckpoint != theirs.ckpoint {
-        return false;
-    }
-    let map = ours.map;
-    let wanted = theirs.map;
-    same_map(map, wanted, ours.next)
+    ours.start == theirs.start
+        && ours.next == theirs.next
+        && ours.size == theirs.size
+        && ours.ckpoint == theirs.ckpoint
+        && same_map(ours.map, theirs.map, ours.next)
 }
 
 // A call's number without its sign, as the records have it.
 pub fn bare(code: i32) -> u32
     ensures { result ≡ bare_of code }
 {
-    if code < 0 {
-        !code as u32 + 1
-    } else {
-        code as u32
-    }
+    code.unsigned_abs()
 }

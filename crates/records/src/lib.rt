@@ -65,11 +65,7 @@ pub fn image<'a>(list: &'a [u8], card: usize) -> &'a [u8]
 pub fn signed(x: u32) -> i32
     ensures { result ≡ signed_of x }
 {
-    if x < 2147483648 {
-        x as i32
-    } else {
-        !((4294967295 - x) as i32)
-    }
+    x.cast_signed()
 }
 
 // The map of a window: 64 bytes from `at` on.
