@@ -1,22 +1,25 @@
 -- The tests before the card is read, case by case, and what is known behind them. Assumes nothing.
-use mathlib.Core.Path.{◌≡◌, refl}
+use mathlib.Core.Path.{◌≡◌, refl, ap, subst}
 use mathlib.Core.Bool.{Bool, true, false}
 use Prim.Native.Nat.{ℕ, ◌≤◌, ◌<◌}
 use native.Mathlib.Omega.{arith}
 use borrow.Author.Tests.{lt-ltb, le-ltb, ltb-false}
 use lib.Dec.{ltb}
+use Rattle.std.specs.Prelude.{Result, Ok, Err}
 use Rattle.layout.specs.Numbers.{files_max, size_max}
+use Rattle.layout.specs.declared.Refusal.{Refusal}
+use Rattle.layout.specs.declared.Refusal.TheVariants.{Missing, Invalid}
 use Rattle.layout.specs.inner.Served.{geometry}
 use Rattle.card.specs.Card.{good_card}
 use Rattle.card.proofs.Cards.{card}
 use Rattle.ctz.specs.inner.Bounds.{ListFacts}
+use Rattle.files.specs.declared.Entry.{Entry}
 use Rattle.files.specs.declared.Table.{Table}
 use Rattle.files.specs.declared.Found.{Found}
 use Rattle.files.specs.declared.Found.TheVariants as found
 use Rattle.files.specs.Table.{file, find_of}
 use Rattle.files.proofs.Laws.{count_ok, table_valid}
 use Rattle.files.proofs.Cases.{found_at}
-use Rattle.reading.specs.declared.Asked.TheVariants as asked
 use Rattle.reading.specs.Calls.{asked_of}
 use Rattle.reading.specs.inner.Bounds.{file_position}
 
@@ -28,66 +31,70 @@ pub found_size : (t : Table) (number i : ℕ) → find_of t number ≡ found.At 
 found_size t number i e = let h = found_at t number i e in (table_valid t h.ok).size_le i h.below
 
 module _ (B N len : ℕ) (t : Table) (number p : ℕ) where
-  pub ask_card : good_card (geometry B N) len ≡ false → asked.Refused ≡ asked_of (geometry B N) len t (file_position number p)
+  pub ask_card : good_card (geometry B N) len ≡ false → Err Invalid ≡ asked_of (geometry B N) len t (file_position number p)
   unfolding asked_of
   ask_card g = rw (asked_of, g) refl
 
   module _ (g : good_card (geometry B N) len ≡ true) where
-    pub ask_missing : find_of t number ≡ found.Missing → asked.Missing ≡ asked_of (geometry B N) len t (file_position number p)
+    pub ask_missing : find_of t number ≡ found.Missing → Err Missing ≡ asked_of (geometry B N) len t (file_position number p)
     unfolding asked_of
     ask_missing e = rw (asked_of, g, e) refl
 
-    pub ask_refused : find_of t number ≡ found.Refused → asked.Refused ≡ asked_of (geometry B N) len t (file_position number p)
+    pub ask_refused : find_of t number ≡ found.Refused → Err Invalid ≡ asked_of (geometry B N) len t (file_position number p)
     unfolding asked_of
     ask_refused e = rw (asked_of, g, e) refl
 
-    pub ask_far : (i : ℕ) → find_of t number ≡ found.At i → size_max < p → asked.Refused ≡ asked_of (geometry B N) len t (file_position number p)
+    pub ask_far : (i : ℕ) → find_of t number ≡ found.At i → size_max < p → Err Invalid ≡ asked_of (geometry B N) len t (file_position number p)
     unfolding asked_of
     ask_far i e h = rw (asked_of, g, e, lt-ltb size_max p h) refl
 
-    pub ask_file : (i : ℕ) → find_of t number ≡ found.At i → p ≤ size_max → asked.File (file t i).head (file t i).size ≡ asked_of (geometry B N) len t (file_position number p)
+    pub ask_file : (i : ℕ) → find_of t number ≡ found.At i → p ≤ size_max → Ok (file t i) ≡ asked_of (geometry B N) len t (file_position number p)
     unfolding asked_of
     ask_file i e h = rw (asked_of, g, e, le-ltb size_max p h) refl
 
   -- what is known of a file that is handed on
-  pub record Known (head size : ℕ) : Type 0 where
+  pub record Known (e : Entry) : Type 0 where
     pub good : good_card (geometry B N) len ≡ true
     pub slot : ℕ
     pub place : find_of t number ≡ found.At slot
-    pub head_is : (file t slot).head ≡ head
-    pub size_is : (file t slot).size ≡ size
+    pub file_is : file t slot ≡ e
     pub near : p ≤ size_max
 
-  pub ask_tells : (head size : ℕ) → asked_of (geometry B N) len t (file_position number p) ≡ asked.File head size → Known head size
+  -- the three answers
+  pub data Way : Result Entry Refusal → Type 0 where
+    met : {e : Entry} → Known e → Way (Ok e)
+    missed : Way (Err Missing)
+    refused : Way (Err Invalid)
+
+  pub ask_way : Way (asked_of (geometry B N) len t (file_position number p))
   unfolding asked_of
-  ask_tells head size q = go (good_card (geometry B N) len) refl (find_of t number) refl (ltb size_max p) refl q
+  ask_way = go (good_card (geometry B N) len) refl (find_of t number) refl (ltb size_max p) refl
     where
       go : (a : Bool) → good_card (geometry B N) len ≡ a → (w : Found) → find_of t number ≡ w → (b : Bool) → ltb size_max p ≡ b
-          → elim a [
-            | false ↦ asked.Refused
+          → Way (elim a [
+            | false ↦ Err Invalid
             | true ↦ elim w [
-              | found.At i ↦ elim b [ true ↦ asked.Refused | false ↦ asked.File (file t i).head (file t i).size ]
-              | found.Missing ↦ asked.Missing
-              | found.Refused ↦ asked.Refused
+              | found.At i ↦ elim b [ true ↦ Err Invalid | false ↦ Ok (file t i) ]
+              | found.Missing ↦ Err Missing
+              | found.Refused ↦ Err Invalid
             ]
-          ] ≡ asked.File head size
-          → Known head size
-      go true g (found.At i) e false h q =
-          record {
-            good = g;
-            slot = i;
-            place = e;
-            head_is = cc;
-            size_is = cc;
-            near = ltb-false size_max p h;
-          }
-      go true g (found.At i) e true h q = let z : ◌≡◌ {A = ℕ} 0 1 = cc in absurd (omega arith)
-      go true g found.Missing e b h q = let z : ◌≡◌ {A = ℕ} 0 1 = cc in absurd (omega arith)
-      go true g found.Refused e b h q = let z : ◌≡◌ {A = ℕ} 0 1 = cc in absurd (omega arith)
-      go false g w e b h q = let z : ◌≡◌ {A = ℕ} 0 1 = cc in absurd (omega arith)
+          ])
+      go true g (found.At i) f false h = met (record { good = g; slot = i; place = f; file_is = refl; near = ltb-false size_max p h })
+      go true g (found.At i) f true h = refused
+      go true g found.Missing f b h = missed
+      go true g found.Refused f b h = refused
+      go false g w f b h = refused
+
+  pub ask_tells : (e : Entry) → asked_of (geometry B N) len t (file_position number p) ≡ Ok e → Known e
+  ask_tells e q = go ask_way q
+    where
+      go : {r : Result Entry Refusal} → Way r → r ≡ Ok e → Known e
+      go (met {e = x} k) q = let same : x ≡ e = cc in subst (λ (y : Entry). Known y) same k
+      go missed q = let z : ◌≡◌ {A = ℕ} 0 1 = cc in absurd (omega arith)
+      go refused q = let z : ◌≡◌ {A = ℕ} 0 1 = cc in absurd (omega arith)
 
   -- its list lies on a card, and its size is none too large
-  pub listed : (head size : ℕ) → asked_of (geometry B N) len t (file_position number p) ≡ asked.File head size → ListFacts B N size len
-  listed head size q =
-      let k = ask_tells head size q in
-      record { card = card B N len k.good; most = omega (arith, found_size t number k.slot k.place, k.size_is) }
+  pub listed : (e : Entry) → asked_of (geometry B N) len t (file_position number p) ≡ Ok e → ListFacts B N e.size len
+  listed e q =
+      let k = ask_tells e q in
+      record { card = card B N len k.good; most = omega (arith, found_size t number k.slot k.place, ap (λ (x : Entry). x.size) k.file_is) }

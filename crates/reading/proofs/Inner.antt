@@ -9,6 +9,8 @@ use borrow.Author.Tests.{lt-ltb, ltb-true, ltb-false}
 use lib.Dec.{ltb}
 use lib.ListN.{length}
 use lib.Seq.{sets}
+use Rattle.std.specs.Prelude.{Ok, Err}
+use Rattle.layout.specs.declared.Refusal.TheVariants.{Damaged}
 use Rattle.layout.specs.inner.Served.{block_list}
 use Rattle.card.specs.inner.Cards.{card_with}
 use Rattle.ctz.specs.declared.Found.{Found}
@@ -23,8 +25,6 @@ use Rattle.finding.specs.inner.Runs.{clean, got_bytes}
 use Rattle.finding.proofs.Parts.{never_both}
 use Rattle.finding.proofs.Gathers.{all_none, Gave, copied, damaged, gave, offset_below, step}
 use Rattle.copies.specs.inner.Copies.{Copied, copied_of}
-use Rattle.reading.specs.declared.Reading.TheVariants as reading
-use Rattle.reading.specs.declared.Placed.TheVariants as placed
 use Rattle.reading.specs.Calls.{given, placed_of, placed_place, placed_length}
 
 -- a position below the size has a run of bytes to the end behind it
@@ -34,18 +34,18 @@ ranged p n l h = record { card = l.card; most = l.most; inside = h }
 -- ---- read
 
 gives_copied : (n : ℕ) {g : Gathered} (buffer after : List ℕ) → Gave n g → clean g ≡ true → after ≡ sets buffer 0 (got_bytes g)
-    → record { answer = reading.Bytes n; buffer = after } ≡ given buffer g
+    → record { answer = Ok n; buffer = after } ≡ given buffer g
 gives_copied n buffer after (copied bs e) c a = rw (a, sym e) refl
 gives_copied n buffer after damaged c a = let z : ◌≡◌ {A = ℕ} 0 1 = cc in absurd (omega arith)
 
 gives_damaged : (n : ℕ) {g : Gathered} (buffer after : List ℕ) → Gave n g → clean g ≡ false → after ≡ sets buffer 0 (got_bytes g)
-    → record { answer = reading.Damaged; buffer = after } ≡ given buffer g
+    → record { answer = Err Damaged; buffer = after } ≡ given buffer g
 gives_damaged n buffer after (copied bs e) c a = absurd (never_both refl c)
 gives_damaged n buffer after damaged c a = rw a refl
 
 module _ (image : List ℕ) (B N head size p : ℕ) (buffer : List ℕ) where
   pub read_none : (n : ℕ) → n ≡ min (length buffer) (size - p) → n ≡ 0
-      → record { answer = reading.Bytes 0; buffer = buffer } ≡ given buffer (read_in (card_with B N image) (block_list head size) (range p (length buffer)))
+      → record { answer = Ok 0; buffer = buffer } ≡ given buffer (read_in (card_with B N image) (block_list head size) (range p (length buffer)))
   unfolding read_in
   read_none n q z = sym (ap (given buffer) (all_none image B N head size p (min (length buffer) (size - p)) (omega arith)))
 
@@ -63,10 +63,10 @@ module _ (image : List ℕ) (B N head size p : ℕ) (buffer : List ℕ) where
       unfolding copied_of
       left = ap (λ (o : Copied). o.after) ran
 
-      pub read_damaged : whole ≡ false → record { answer = reading.Damaged; buffer = after } ≡ given buffer (read_in (card_with B N image) (block_list head size) (range p (length buffer)))
+      pub read_damaged : whole ≡ false → record { answer = Err Damaged; buffer = after } ≡ given buffer (read_in (card_with B N image) (block_list head size) (range p (length buffer)))
       read_damaged w = gives_damaged n buffer after (gave image head p n r) (sym told ∙ w) left ∙ sym (ap (given buffer) read_is)
 
-      pub read_copied : whole ≡ true → record { answer = reading.Bytes n; buffer = after } ≡ given buffer (read_in (card_with B N image) (block_list head size) (range p (length buffer)))
+      pub read_copied : whole ≡ true → record { answer = Ok n; buffer = after } ≡ given buffer (read_in (card_with B N image) (block_list head size) (range p (length buffer)))
       read_copied w = gives_copied n buffer after (gave image head p n r) (sym told ∙ w) left ∙ sym (ap (given buffer) read_is)
 
 -- a read behind the tests gives -84, or exactly min(room, size - position) bytes
@@ -86,7 +86,7 @@ read_in_gave image head {B} {N} {size} p room l = go (ltb p size) refl
 
 -- ---- stretch
 
-pub place_past : (image : List ℕ) (B N head size p : ℕ) → size ≤ p → placed.Part 0 0 ≡ placed_of (stretch_in (card_with B N image) (block_list head size) p)
+pub place_past : (image : List ℕ) (B N head size p : ℕ) → size ≤ p → Ok (record { place = 0; length = 0 }) ≡ placed_of (stretch_in (card_with B N image) (block_list head size) p)
 place_past image B N head size p h = sym (ap placed_of (stretch_past image B N head size p h))
 
 pub place_found : (image : List ℕ) (B N head size p : ℕ) (w : Found) → p < size → walk_to (card_with B N image) (block_list head size) p ≡ w
@@ -95,9 +95,9 @@ unfolding stretch_in
 place_found image B N head size p w h e = rw (stretch_in, lt-ltb p size h, e) refl
 
 pub place_part : (image : List ℕ) (B N head size p : ℕ) {k off hops : ℕ} (m : ℕ) → p < size → walk_to (card_with B N image) (block_list head size) p ≡ found.At k off hops
-    → m ≡ min (B - off) (size - p) → placed.Part (k * B + off) m ≡ placed_of (stretch_in (card_with B N image) (block_list head size) p)
+    → m ≡ min (B - off) (size - p) → Ok (record { place = k * B + off; length = m }) ≡ placed_of (stretch_in (card_with B N image) (block_list head size) p)
 place_part image B N head size p {k} {off} {hops} m h e q =
-    ap (placed.Part (k * B + off)) q ∙ place_found image B N head size p (found.At k off hops) h e
+    ap (λ (x : ℕ). Ok (record { place = k * B + off; length = x })) q ∙ place_found image B N head size p (found.At k off hops) h e
 
 -- the place of a position that is found lies in the image
 pub record Lies (B size p k off : ℕ) : Type 0 where

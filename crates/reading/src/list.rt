@@ -7,10 +7,11 @@ ghost use Rattle.plain.specs.Reading.{read_in, stretch_in};
 ghost use Rattle.plain.specs.inner.Forms.{range};
 ghost use Rattle.reading.specs.Calls.{given, placed_of};
 
-use crate::{Placed, Reading};
+use crate::Part;
 use copies::copy_found;
 use ctz::Found;
 use finding::numbers::{fitting, least, remaining};
+use layout::Refusal;
 
 // Read: every block touched is looked up before a byte is copied.
 pub fn read_in(
@@ -21,31 +22,38 @@ pub fn read_in(
     size: u32,
     pos: u32,
     buffer: &mut [u8],
-) -> Reading
+) -> Result<u32, Refusal>
     requires { ListFacts b n size (length image.now) }
     ensures { record { answer = result; buffer = buffer.new }
         ≡ given buffer.old (read_in (card_with b n image.now) (block_list head size) (range pos (length buffer.old))) }
 {
     let count = fitting(buffer.len(), remaining(size, pos));
     if count == 0 {
-        return Reading::Bytes { length: 0 };
+        return Ok(0);
     }
     if !copy_found(b, n, image, head, size, pos, count, buffer) {
-        return Reading::Damaged;
+        return Err(Refusal::Damaged);
     }
-    Reading::Bytes { length: count }
+    Ok(count)
 }
 
 // Stretch: from the place of a position to the end of its block or of the file.
-pub fn place_in(b: u32, n: u32, image: &[u8], head: u32, size: u32, pos: u32) -> Placed
+pub fn place_in(
+    b: u32,
+    n: u32,
+    image: &[u8],
+    head: u32,
+    size: u32,
+    pos: u32,
+) -> Result<Part, Refusal>
     requires { ListFacts b n size (length image.now) }
     ensures { result ≡ placed_of (stretch_in (card_with b n image.now) (block_list head size) pos) }
 {
     if size <= pos {
-        return Placed::Part {
+        return Ok(Part {
             place: 0,
             length: 0,
-        };
+        });
     }
     let found = ctz::find_in(b, n, image, head, size, pos);
     match found {
@@ -53,11 +61,11 @@ pub fn place_in(b: u32, n: u32, image: &[u8], head: u32, size: u32, pos: u32) ->
             block,
             offset,
             hops: _,
-        } => Placed::Part {
+        } => Ok(Part {
             place: block * b + offset,
             length: least(b - offset, size - pos),
-        },
-        Found::Damaged => Placed::Damaged,
-        Found::Refused => Placed::Refused,
+        }),
+        Found::Damaged => Err(Refusal::Damaged),
+        Found::Refused => Err(Refusal::Invalid),
     }
 }
