@@ -37,8 +37,7 @@ fn visited(list: &[u8], at: usize, card: usize, blocks: usize, begun: Visit) -> 
 {
     let g = geometry(list, card);
     let mut v = begun;
-    let mut i: u32 = 0;
-    while i < 64 {
+    for i in 0..64 {
         let step = ctz::visit::ctz_traverse(g, image(list, card), v);
         match step {
             Step::Last { block } => {
@@ -60,7 +59,6 @@ fn visited(list: &[u8], at: usize, card: usize, blocks: usize, begun: Visit) -> 
                 return told(list, at, 22, i, 0, 0);
             }
         }
-        i += 1;
     }
     false
 }

@@ -21,7 +21,7 @@ fn one_file(size: u32) -> Table
     let mut t = Table::empty();
     t.files[0] = Entry {
         number: 7,
-        size: size,
+        size,
         head: some_head(size),
     };
     t.count = 1;
