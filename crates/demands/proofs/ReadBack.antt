@@ -8,12 +8,12 @@ use lib.Dec.{eqb}
 use lib.IntN.{pos}
 use lib.ListN.{length, take, drop, length-take, length-append, length-replicate}
 use lib.Seq.{drop_at, take-append_seam}
+use Rattle.std.specs.Prelude.{Ok}
 use Rattle.span.proofs.Parts.{sets_over}
 use Rattle.layout.specs.Numbers.{number_max, size_max, accepted}
 use Rattle.card.specs.inner.Cards.{card_with}
 use Rattle.files.proofs.Tests.{leb_cases, bool_cases}
 use Rattle.grow.specs.Setting.{State}
-use Rattle.reading.specs.declared.Reading.TheVariants as reading
 use Rattle.reading.specs.Calls.{read_of}
 use Rattle.reading.specs.inner.Bounds.{file_position}
 use Rattle.old_list.specs.Write.{zeros}
@@ -39,7 +39,7 @@ back bs p src =
     ap (take (length src)) (drop_at front rest p n) ∙ take-append_seam src (drop (p + length src) bs)
 
 read_from_lem : (bs : List ℕ) (p : ℕ) (src buffer : List ℕ) → length buffer ≡ length src
-    → read_from (overwrite (ask_write 0 p src) bs) p buffer ≡ record { answer = reading.Bytes (length src); buffer = src }
+    → read_from (overwrite (ask_write 0 p src) bs) p buffer ≡ record { answer = Ok (length src); buffer = src }
 read_from_lem bs p src buffer n =
     let m : min (length buffer) (length (overwrite (ask_write 0 p src) bs) - p) ≡ length src = omega (arith, plain_length bs p src) in
     rw (m, back bs p src, sets_over buffer src n)
@@ -89,7 +89,7 @@ passed true number p src fs q =
 pub read_back : {g : Shape} {s : State} → Came g s → Sounds g s → (health : List ℕ) (w : WriteAsked) (buffer : List ℕ) → (length w.bytes ≡ 0 → ⊥)
     → length buffer ≡ length w.bytes → (after (under g health) (write w) s).code ≡ accepted
     → (let s' : State = (after (under g health) (write w) s).state in
-    read_of (card_with g.B g.N s'.image) s'.table (file_position w.number w.position) buffer ≡ record { answer = reading.Bytes (length w.bytes); buffer = w.bytes })
+    read_of (card_with g.B g.N s'.image) s'.table (file_position w.number w.position) buffer ≡ record { answer = Ok (length w.bytes); buffer = w.bytes })
 read_back {g} {s} came sounds health w buffer some n d =
     let number = w.number in
     let p = w.position in

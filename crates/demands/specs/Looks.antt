@@ -6,7 +6,6 @@ use Rattle.layout.specs.declared.Refusal.TheVariants.{Missing, Invalid}
 use Rattle.layout.specs.Layout.{offset_at}
 use Rattle.layout.specs.Numbers.{accepted}
 use Rattle.files.specs.Seek.{Seek, whence_of}
-use Rattle.reading.specs.declared.Reading.TheVariants as reading
 use Rattle.reading.specs.Calls.{FilePosition, ReadOut}
 use Rattle.demands.specs.Plain.{PlainFile, file_bytes, meets, meets_file, refused, missing, met, code_if}
 
@@ -27,7 +26,7 @@ plain_seek k fs =
 abbrev pub read_from : List ℕ → ℕ → List ℕ → ReadOut
 read_from bytes p buffer =
     record {
-      answer = reading.Bytes (min (length buffer) (length bytes - p));
+      answer = Ok (min (length buffer) (length bytes - p));
       buffer = sets buffer 0 (take (min (length buffer) (length bytes - p)) (drop p bytes));
     }
 
@@ -35,8 +34,8 @@ read_from bytes p buffer =
 abbrev pub plain_read : FilePosition → List ℕ → List PlainFile → ReadOut
 plain_read place buffer fs =
     elim (meets place fs) [
-      | refused ↦ record { answer = reading.Refused; buffer = buffer }
-      | missing ↦ record { answer = reading.Missing; buffer = buffer }
+      | refused ↦ record { answer = Err Invalid; buffer = buffer }
+      | missing ↦ record { answer = Err Missing; buffer = buffer }
       | met ↦ read_from (file_bytes place.number fs) place.position buffer
     ]
 

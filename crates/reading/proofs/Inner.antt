@@ -11,7 +11,7 @@ use lib.ListN.{length}
 use lib.Seq.{sets}
 use Rattle.std.specs.Prelude.{Result, Ok, Err}
 use Rattle.layout.specs.declared.Refusal.{Refusal}
-use Rattle.layout.specs.declared.Refusal.TheVariants as refusal
+use Rattle.layout.specs.declared.Refusal.TheVariants.{Damaged}
 use Rattle.layout.specs.inner.Served.{block_list}
 use Rattle.card.specs.inner.Cards.{card_with}
 use Rattle.ctz.specs.declared.Found.{Found}
@@ -25,8 +25,6 @@ use Rattle.finding.specs.inner.Runs.{clean, got_bytes}
 use Rattle.finding.proofs.Parts.{never_both}
 use Rattle.finding.proofs.Gathers.{all_none, Gave, copied, damaged, gave, offset_below, only_damaged, step}
 use Rattle.copies.specs.inner.Copies.{Roomy, Copied, copied_of}
-use Rattle.reading.specs.declared.Reading.TheVariants as reading
-use Rattle.reading.specs.declared.Placed.TheVariants as placed
 use Rattle.reading.specs.Calls.{given, placed_of, placed_place, placed_length}
 
 -- a position below the size has a run of bytes to the end behind it
@@ -44,18 +42,18 @@ roomy {size = size} {p} {n} {room = room} l q z =
     record { run = ranged p n l (omega arith); some = some; fits = omega arith }
 
 gives_copied : (n : ℕ) {g : Gathered} (buffer after : List ℕ) → Gave n g → clean g ≡ Ok tt → after ≡ sets buffer 0 (got_bytes g)
-    → record { answer = reading.Bytes n; buffer = after } ≡ given buffer g
+    → record { answer = Ok n; buffer = after } ≡ given buffer g
 gives_copied n buffer after (copied bs e) c a = rw (a, sym e) refl
 gives_copied n buffer after damaged c a = let z : ◌≡◌ {A = ℕ} 0 1 = cc in absurd (omega arith)
 
 gives_damaged : (n : ℕ) {g : Gathered} {d : Refusal} (buffer after : List ℕ) → Gave n g → clean g ≡ Err d → after ≡ sets buffer 0 (got_bytes g)
-    → record { answer = reading.Damaged; buffer = after } ≡ given buffer g
+    → record { answer = Err d; buffer = after } ≡ given buffer g
 gives_damaged n buffer after (copied bs e) c a = absurd (never_both refl c)
-gives_damaged n buffer after damaged c a = rw a refl
+gives_damaged n {d = d} buffer after damaged c a = let same : d ≡ Damaged = cc in rw (a, same) refl
 
 module _ (image : List ℕ) (B N head size p : ℕ) (buffer : List ℕ) where
   pub read_none : (n : ℕ) → n ≡ min (length buffer) (size - p) → n ≡ 0
-      → record { answer = reading.Bytes 0; buffer = buffer } ≡ given buffer (read_in (card_with B N image) (block_list head size) (range p (length buffer)))
+      → record { answer = Ok 0; buffer = buffer } ≡ given buffer (read_in (card_with B N image) (block_list head size) (range p (length buffer)))
   unfolding read_in
   read_none n q z = sym (ap (given buffer) (all_none image B N head size p (min (length buffer) (size - p)) (omega arith)))
 
@@ -73,10 +71,10 @@ module _ (image : List ℕ) (B N head size p : ℕ) (buffer : List ℕ) where
       unfolding copied_of
       left = ap (λ (o : Copied). o.after) ran
 
-      pub read_damaged : {d : Refusal} → whole ≡ Err d → record { answer = reading.Damaged; buffer = after } ≡ given buffer (read_in (card_with B N image) (block_list head size) (range p (length buffer)))
+      pub read_damaged : {d : Refusal} → whole ≡ Err d → record { answer = Err d; buffer = after } ≡ given buffer (read_in (card_with B N image) (block_list head size) (range p (length buffer)))
       read_damaged w = gives_damaged n buffer after (gave image head p n r) (sym told ∙ w) left ∙ sym (ap (given buffer) read_is)
 
-      pub read_copied : whole ≡ Ok tt → record { answer = reading.Bytes n; buffer = after } ≡ given buffer (read_in (card_with B N image) (block_list head size) (range p (length buffer)))
+      pub read_copied : whole ≡ Ok tt → record { answer = Ok n; buffer = after } ≡ given buffer (read_in (card_with B N image) (block_list head size) (range p (length buffer)))
       read_copied w = gives_copied n buffer after (gave image head p n r) (sym told ∙ w) left ∙ sym (ap (given buffer) read_is)
 
 -- a read behind the tests gives -84, or exactly min(room, size - position) bytes
@@ -96,7 +94,7 @@ read_in_gave image head {B} {N} {size} p room l = go (ltb p size) refl
 
 -- ---- stretch
 
-pub place_past : (image : List ℕ) (B N head size p : ℕ) → size ≤ p → placed.Part 0 0 ≡ placed_of (stretch_in (card_with B N image) (block_list head size) p)
+pub place_past : (image : List ℕ) (B N head size p : ℕ) → size ≤ p → Ok (record { place = 0; length = 0 }) ≡ placed_of (stretch_in (card_with B N image) (block_list head size) p)
 place_past image B N head size p h = sym (ap placed_of (stretch_past image B N head size p h))
 
 pub place_found : (image : List ℕ) (B N head size p : ℕ) (w : Result Found Refusal) → p < size → walk_to (card_with B N image) (block_list head size) p ≡ w
@@ -105,14 +103,16 @@ unfolding stretch_in
 place_found image B N head size p w h e = rw (stretch_in, lt-ltb p size h, e) refl
 
 pub place_part : (image : List ℕ) (B N head size p : ℕ) {k off hops : ℕ} (m : ℕ) → p < size → walk_to (card_with B N image) (block_list head size) p ≡ found_at k off hops
-    → m ≡ min (B - off) (size - p) → placed.Part (k * B + off) m ≡ placed_of (stretch_in (card_with B N image) (block_list head size) p)
+    → m ≡ min (B - off) (size - p) → Ok (record { place = k * B + off; length = m }) ≡ placed_of (stretch_in (card_with B N image) (block_list head size) p)
 place_part image B N head size p {k} {off} {hops} m h e q =
-    ap (placed.Part (k * B + off)) q ∙ place_found image B N head size p (found_at k off hops) h e
+    ap (λ (x : ℕ). Ok (record { place = k * B + off; length = x })) q ∙ place_found image B N head size p (found_at k off hops) h e
 
 pub place_lost : (image : List ℕ) (head : ℕ) {B N size : ℕ} (p : ℕ) {d : Refusal} → ListFacts B N size (length image) → p < size
-    → walk_to (card_with B N image) (block_list head size) p ≡ Err d → placed.Damaged ≡ placed_of (stretch_in (card_with B N image) (block_list head size) p)
-place_lost image head {B} {N} {size} p l h e =
-    place_found image B N head size p (Err refusal.Damaged) h (only_damaged image head (ranged p (size - p) l (omega arith)) (omega arith) e)
+    → walk_to (card_with B N image) (block_list head size) p ≡ Err d → Err d ≡ placed_of (stretch_in (card_with B N image) (block_list head size) p)
+place_lost image head {B} {N} {size} p {d} l h e =
+    let f = only_damaged image head (ranged p (size - p) l (omega arith)) (omega arith) e in
+    let same : d ≡ Damaged = cc in
+    rw same (place_found image B N head size p (Err Damaged) h f)
 
 -- the place of a position that is found lies in the image
 pub record Lies (B size p k off : ℕ) : Type 0 where

@@ -7,6 +7,7 @@ use native.Mathlib.Nat.{min-le_right}
 use native.Mathlib.Omega.{arith}
 use lib.ListN.{length, take, drop, length-drop}
 use lib.Seq.{sets, length-take-le}
+use Rattle.std.specs.Prelude.{Ok}
 use Rattle.layout.specs.Layout.{index_at, offset_at}
 use Rattle.layout.specs.Numbers.{size_max}
 use Rattle.layout.specs.inner.Served.{geometry, block_list}
@@ -23,8 +24,6 @@ use Rattle.plain.proofs.Same.{part_bytes}
 use Rattle.files.specs.declared.Table.{Table}
 use Rattle.std.specs.Prelude.{Ok}
 use Rattle.files.specs.Table.{file, find_of}
-use Rattle.reading.specs.declared.Reading.TheVariants as reading
-use Rattle.reading.specs.declared.Placed.TheVariants as placed
 use Rattle.reading.specs.Calls.{given, read_of, placed_of, stretch_of, stretch_bytes}
 use Rattle.reading.specs.inner.Bounds.{file_position}
 use Rattle.reading.proofs.Asks.{ask_file, found_size}
@@ -56,7 +55,7 @@ module _ (B N : ℕ) (image : List ℕ) (t : Table) (number i p : ℕ) (good : g
   pub read_plain : (buffer : List ℕ)
       → read_of (card_with B N image) t (file_position number p) buffer
       ≡ record {
-        answer = reading.Bytes (min (length buffer) (size - p));
+        answer = Ok (min (length buffer) (size - p));
         buffer = sets buffer 0 (take (min (length buffer) (size - p)) (drop p (bytes B image (block_list head size))));
       }
   read_plain buffer =
@@ -66,7 +65,7 @@ module _ (B N : ℕ) (image : List ℕ) (t : Table) (number i p : ℕ) (good : g
       let long : length bs ≡ m = part_long (bytes B image (block_list head size)) p m (omega (arith, bytes_length fits sound)) in
       sym (read_file B N image t number p buffer (sym (ask_file B N (length image) t number p good i here near)))
       ∙ ap (given buffer) (read_sound fits sound p (length buffer))
-      ∙ ap (λ (n : ℕ). record { answer = reading.Bytes n; buffer = sets buffer 0 bs }) long
+      ∙ ap (λ (n : ℕ). record { answer = Ok n; buffer = sets buffer 0 bs }) long
 
   -- ---- stretch
 
@@ -74,13 +73,16 @@ module _ (B N : ℕ) (image : List ℕ) (t : Table) (number i p : ℕ) (good : g
   stretch_is = place_file B N image t number p (sym (ask_file B N (length image) t number p good i here near))
 
   -- at or past the end the empty part at place 0
-  pub stretch_end : size ≤ p → stretch_of (card_with B N image) t (file_position number p) ≡ placed.Part 0 0
+  pub stretch_end : size ≤ p → stretch_of (card_with B N image) t (file_position number p) ≡ Ok (record { place = 0; length = 0 })
   stretch_end h = sym stretch_is ∙ ap placed_of (stretch_past image B N head size p h)
 
   -- below the size from the position's place to the end of its block or of the file
   pub stretch_at : p < size
       → stretch_of (card_with B N image) t (file_position number p)
-      ≡ placed.Part (at (pointer B image) head (index_at B (size - 1)) (index_at B p) * B + offset_at B p) (min (B - offset_at B p) (size - p))
+      ≡ Ok (record {
+        place = at (pointer B image) head (index_at B (size - 1)) (index_at B p) * B + offset_at B p;
+        length = min (B - offset_at B p) (size - p);
+      })
   stretch_at h = sym stretch_is ∙ ap placed_of (stretch_place fits sound p h)
 
   -- with the bytes of the plain file

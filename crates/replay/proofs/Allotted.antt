@@ -2,52 +2,27 @@
 use mathlib.Core.Path.{◌≡◌, refl, sym, ap, ◌∙◌}
 use mathlib.Core.Bool.{Bool, true, false, ◌&&◌}
 use mathlib.Core.List.{List, [], ◌∷◌}
-use Prim.Native.Nat.{ℕ, ◌≤◌, ◌<◌}
+use Prim.Native.Nat.{ℕ, ◌≤◌}
 use native.Mathlib.Omega.{arith}
-use borrow.Author.Tests.{eq-eqb, eqb-true, le-leb, lt-leb}
+use borrow.Author.Tests.{eq-eqb, eqb-true, le-leb}
 use lib.Dec.{eqb}
 use lib.ListN.{length, take, drop}
 use lib.Seq.{sets, take-length}
 use Rattle.span.proofs.Parts.{part_sets}
 use Rattle.layout.specs.declared.Geometry.{Geometry}
-use Rattle.card.specs.inner.Cards.{card_with}
 use Rattle.files.specs.declared.Table.{Table}
 use Rattle.files.proofs.Tests.{both_left, both_right}
 use Rattle.window.specs.Allocate.{Allocated}
 use Rattle.window.specs.declared.Lookahead.{Lookahead}
-use Rattle.alloc.specs.Allocate.{allocate_of}
 use Rattle.grow.specs.declared.Grew.{Grew}
 use Rattle.grow.specs.Extend.{extend_of}
 use Rattle.grow.specs.inner.Setting.{setting, state}
 use Rattle.grow.specs.inner.Gives.{GrewGives}
-use Rattle.told_windows.specs.declared.TidAlloc.{TidAlloc}
 use Rattle.told_windows.specs.declared.TidExtend.{TidExtend}
-use Rattle.told_windows.specs.Windows.{allocated_told, grew_told}
+use Rattle.told_windows.specs.Windows.{grew_told}
 use Rattle.records.specs.Records.{word_of, bytes_at, geometry_of, image_of, window_of, table_at}
 use Rattle.records.specs.Agreement.{bare_of, told_of, windows_agree}
-use Rattle.replay.specs.Blocks.{alloc_on, alloc_equal, bytes_agree, extend_on, grew_equal, grown_equal, extend_equal}
-
--- an allocation on a card, and the record of it
-pub alloc_on_lem : (list : List ℕ) (card l p : ℕ) (g : Geometry) (image : List ℕ) (t : Table) (w : Lookahead) (a : Allocated) → g ≡ geometry_of list card
-    → l ≡ word_of list card 2
-    → image ≡ image_of list card
-    → p ≡ word_of list card 6
-    → t ≡ table_at list p
-    → a ≡ allocate_of (card_with g.block_size g.block_count image) l t w
-    → a ≡ alloc_on list card w
-alloc_on_lem list card l p g image t w a x y z u v e = e ∙ rw (x, y, z, v, u)
-
-module _ (list : List ℕ) (at card p q : ℕ) (before after : Lookahead) (g : Allocated) (a : TidAlloc) (c : card ≡ word_of list at 4) (x : p ≡ word_of list at 5) (y : before ≡ window_of list p)
-    (e : g ≡ alloc_on list card before) (k : a ≡ allocated_told g) (u : q ≡ word_of list at 6) (v : after ≡ window_of list q) where
-  told : alloc_equal list at ≡ (windows_agree a.window after && told_of list at (bare_of a.code) a.block 0 0)
-  unfolding alloc_equal
-  told = rw (alloc_equal, k, e, v, u, y, x, c)
-
-  pub window_other : windows_agree a.window after ≡ false → false ≡ alloc_equal list at
-  window_other h = sym (told ∙ rw h)
-
-  pub window_same : (code : ℕ) (r : Bool) → windows_agree a.window after ≡ true → code ≡ bare_of a.code → r ≡ told_of list at code a.block 0 0 → r ≡ alloc_equal list at
-  window_same code r h i f = f ∙ ap (λ (n : ℕ). told_of list at n a.block 0 0) i ∙ sym (told ∙ rw h)
+use Rattle.replay.specs.Blocks.{bytes_agree, extend_on, grew_equal, grown_equal, extend_equal}
 
 -- the same bytes
 bytes_refl : (a : List ℕ) → bytes_agree a a ≡ true
@@ -117,10 +92,6 @@ front space after image h e =
 
 -- the image of a card, copied
 module _ (list : List ℕ) (at card : ℕ) (image : List ℕ) (whole : Bool) (a : card ≡ word_of list at 4) (b : image ≡ image_of list card) where
-  pub too_long : 2048 < length image → false ≡ extend_equal whole list at
-  unfolding extend_equal
-  too_long h = rw (extend_equal, ← a, ← b, lt-leb (length image) 2048 h)
-
   pub copied : (copy : List ℕ) (r : Bool) → length image ≤ 2048 → copy ≡ image → r ≡ grown_equal whole list at card copy → r ≡ extend_equal whole list at
   unfolding extend_equal
   copied copy r h e q = q ∙ rw (e, extend_equal, ← a, ← b, le-leb (length image) 2048 h, ← a, ← b)

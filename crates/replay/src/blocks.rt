@@ -6,6 +6,7 @@ use records::agree::{bare, same_window, told};
 use records::{geometry, image, part, place, table, window, word};
 
 // One allocation: the block, and the window afterwards.
+#[tactic(auto, using(records::proofs::Bare::bare_is), unfolding(crate::specs::Blocks::alloc_equal))]
 pub fn alloc(list: &[u8], at: usize) -> bool
     ensures { result ≡ alloc_equal list.now at }
 {
@@ -49,6 +50,7 @@ fn grown(list: &[u8], at: usize, card: usize, image: &mut [u8], whole: bool) -> 
 }
 
 // One growth on a copy of the card's image, which has at most 2,048 bytes.
+#[tactic(auto, unfolding(crate::specs::Blocks::extend_equal))]
 pub fn extend(list: &[u8], at: usize, whole: bool) -> bool
     ensures { result ≡ extend_equal whole list.now at }
 {

@@ -9,6 +9,7 @@ use records::agree::{bare, told};
 use records::{geometry, image, place, word};
 
 // Index and offset of a position.
+#[tactic(auto, using(records::proofs::Bare::bare_is), unfolding(crate::specs::Lists::index_equal))]
 pub fn index(list: &[u8], at: usize) -> bool
     ensures { result ≡ index_equal list.now at }
 {
@@ -17,6 +18,7 @@ pub fn index(list: &[u8], at: usize) -> bool
 }
 
 // Block, offset and hops of a position.
+#[tactic(auto, using(records::proofs::Bare::bare_is), unfolding(crate::specs::Lists::find_equal))]
 pub fn find(list: &[u8], at: usize) -> bool
     ensures { result ≡ find_equal list.now at }
 {
@@ -55,6 +57,7 @@ fn visited(list: &[u8], at: usize, card: usize, blocks: usize, begun: Visit) -> 
 }
 
 // The blocks of a list, last index first.
+#[tactic(auto, unfolding(crate::specs::Lists::visit_equal))]
 pub fn visit(list: &[u8], at: usize) -> bool
     ensures { result ≡ visit_equal list.now at }
 {

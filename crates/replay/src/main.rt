@@ -10,73 +10,102 @@ mod seeks;
 ghost use Rattle.std.specs.Prelude.{◌≤◌, length, IfOk};
 
 use std::fs::File;
-use std::io;
 use std::io::Read;
+use std::{fmt, io};
 
-// How many records, from the first on, were answered as the oracle did, and where the next one stands.
-#[derive(Clone, Copy)]
-struct Outcome {
+// The kinds of record, as the list numbers them.
+#[derive(Clone, Copy, Debug, PartialEq, Eq)]
+enum Kind {
+    Index,
+    Find,
+    Visit,
+    Alloc,
+    Extend,
+    Image,
+    Seek,
+}
+
+impl Kind {
+    const ALL: [Kind; 7] = [
+        Kind::Index,
+        Kind::Find,
+        Kind::Visit,
+        Kind::Alloc,
+        Kind::Extend,
+        Kind::Image,
+        Kind::Seek,
+    ];
+
+    // How many bytes a record of this kind has.
+    fn width(self) -> usize {
+        match self {
+            Kind::Index => 24,
+            Kind::Alloc => 28,
+            Kind::Find | Kind::Visit | Kind::Seek => 32,
+            Kind::Extend | Kind::Image => 40,
+        }
+    }
+
+    // Whether the record of this kind at this place is answered as the oracle did.
+    fn is_equal(self, list: &[u8], at: usize) -> bool {
+        match self {
+            Kind::Index => lists::index(list, at),
+            Kind::Find => lists::find(list, at),
+            Kind::Visit => lists::visit(list, at),
+            Kind::Alloc => blocks::alloc(list, at),
+            Kind::Extend => blocks::extend(list, at, false),
+            Kind::Image => blocks::extend(list, at, true),
+            Kind::Seek => seeks::seek(list, at),
+        }
+    }
+}
+
+impl fmt::Display for Kind {
+    fn fmt<W: fmt::Write>(&self, f: &mut fmt::Formatter<W>) -> fmt::Result {
+        f.write_str(match self {
+            Kind::Index => "index",
+            Kind::Find => "find",
+            Kind::Visit => "visit",
+            Kind::Alloc => "alloc",
+            Kind::Extend => "extend",
+            Kind::Image => "image",
+            Kind::Seek => "seek",
+        })
+    }
+}
+
+// The first record that differs, or that the list does not hold: how many before it are equal, and where it stands.
+#[derive(Clone, Copy, Debug, PartialEq, Eq)]
+struct Difference {
     equal: u32,
     at: usize,
 }
 
-// Whether the record of this kind at this place is answered as the oracle did.
-fn equal(list: &[u8], kind: u32, at: usize) -> bool {
-    match kind {
-        0 => lists::index(list, at),
-        1 => lists::find(list, at),
-        2 => lists::visit(list, at),
-        3 => blocks::alloc(list, at),
-        4 => blocks::extend(list, at, false),
-        5 => blocks::extend(list, at, true),
-        6 => seeks::seek(list, at),
-        _ => false,
-    }
-}
-
-// The records of one kind, up to the first that differs or that the list does not hold.
-fn run(list: &[u8], kind: u32, first: usize, width: usize, count: u32) -> Outcome {
-    let mut i: u32 = 0;
-    let mut at = first;
-    while i < count {
-        if list.len() < at {
-            return Outcome { equal: i, at: at };
+// Asks the records of one kind, and answers how many they are, all equal.
+fn run(list: &[u8], kind: Kind) -> Result<u32, Difference> {
+    let count = records::word(list, 32, kind as u32);
+    let width = kind.width();
+    let mut at = records::place(list, 0, kind as u32);
+    for equal in 0..count {
+        if list.len() < at || list.len() - at < width || !kind.is_equal(list, at) {
+            return Err(Difference { equal, at });
         }
-        if list.len() - at < width {
-            return Outcome { equal: i, at: at };
-        }
-        if !equal(list, kind, at) {
-            return Outcome { equal: i, at: at };
-        }
-        i += 1;
         at += width;
     }
-    Outcome { equal: i, at: at }
+    Ok(count)
 }
 
-// Writes the line of one kind: how many records are equal, and where the first that differs stands.
-fn replay(rt: &impl Print, list: &[u8], kind: u32, name: &str, width: usize) -> io::Result<()> {
-    let count = records::word(list, 32, kind);
-    let done = run(list, kind, records::place(list, 0, kind), width, count);
-    if done.equal < count {
-        println!(rt;
-            "{name} {} equal, and the record at byte {} differs",
-            done.equal, done.at
-        )
-    } else {
-        println!(rt; "{name} {} equal", done.equal)
+// Writes a line for each kind: how many records are equal, and where the first that differs stands.
+fn replay(rt: &impl Print, list: &[u8]) -> io::Result<()> {
+    for kind in Kind::ALL {
+        match run(list, kind) {
+            Ok(count) => println!(rt; "{kind} {count} equal")?,
+            Err(Difference { equal, at }) => {
+                println!(rt; "{kind} {equal} equal, and the record at byte {at} differs")?
+            }
+        }
     }
-}
-
-// Every kind in turn, with the bytes that a record of it has.
-fn replay_all(rt: &impl Print, list: &[u8]) -> io::Result<()> {
-    replay(rt, list, 0, "index", 24)?;
-    replay(rt, list, 1, "find", 32)?;
-    replay(rt, list, 2, "visit", 32)?;
-    replay(rt, list, 3, "alloc", 28)?;
-    replay(rt, list, 4, "extend", 40)?;
-    replay(rt, list, 5, "image", 40)?;
-    replay(rt, list, 6, "seek", 32)
+    Ok(())
 }
 
 // Room for the list; of a longer one the last records are missing.
@@ -88,6 +117,7 @@ fn room() -> [u8; 262144] {
 fn read_full(file: &mut File, bytes: &mut [u8]) -> io::Result<usize>
     ensures { IfOk result (λ n. n ≤ length bytes.new) }
 {
+    // By hand: `read_to_end` fills a `Vec`, and nothing here is on the heap; `read_exact` refuses a list that is shorter than the room.
     let mut n: usize = 0;
     while n < bytes.len() {
         let more = file.read(&mut bytes[n..])?;
@@ -103,5 +133,5 @@ fn main(rt: HostRuntime) -> io::Result<()> {
     let mut file = File::open(&rt, "answers")?;
     let mut bytes = room();
     let length = read_full(&mut file, &mut bytes)?;
-    replay_all(&rt, &bytes[..length])
+    replay(&rt, &bytes[..length])
 }

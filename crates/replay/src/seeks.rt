@@ -8,6 +8,7 @@ use records::agree::{bare, told};
 use records::{signed, word};
 
 // A head that a file of this size can have.
+#[tactic(auto, unfolding(crate::specs::Files::some_head))]
 fn some_head(size: u32) -> u32
     ensures { result ≡ some_head size }
 {
@@ -29,6 +30,7 @@ fn one_file(size: u32) -> Table
 }
 
 // Where a seek leads in a file of a size.
+#[tactic(auto, using(records::proofs::Bare::bare_is), unfolding(crate::specs::Files::seek_equal))]
 pub fn seek(list: &[u8], at: usize) -> bool
     ensures { result ≡ seek_equal list.now at }
 {

@@ -1,6 +1,7 @@
 -- The answers of the calls on a file as they are exported: 01's number, then the values.
-use Rattle.reading.specs.declared.Reading.{Reading}
-use Rattle.reading.specs.declared.Placed.{Placed}
+use Rattle.std.specs.Prelude.{Result, ℕ}
+use Rattle.layout.specs.declared.Refusal.{Refusal}
+use Rattle.reading.specs.declared.Part.{Part}
 use Rattle.reading.specs.Calls.{read_code, read_length, placed_code, placed_place, placed_length}
 use Rattle.store.specs.declared.Stored.{Stored}
 use Rattle.store.specs.Store.{outcome_code}
@@ -8,10 +9,10 @@ use Rattle.told_files.specs.declared.TidRead.{TidRead}
 use Rattle.told_files.specs.declared.TidStretch.{TidStretch}
 use Rattle.told_files.specs.declared.TidStore.{TidStore}
 
-abbrev pub read_told : Reading → TidRead
+abbrev pub read_told : Result ℕ Refusal → TidRead
 read_told a = record { code = read_code a; length = read_length a }
 
-abbrev pub placed_told : Placed → TidStretch
+abbrev pub placed_told : Result Part Refusal → TidStretch
 placed_told p = record { code = placed_code p; place = placed_place p; length = placed_length p }
 
 -- window and table as the call leaves them

@@ -6,36 +6,26 @@ ghost use Rattle.store.specs.Store.{outcome_code};
 ghost use Rattle.told_files.specs.Contents.{read_told, placed_told, stored_told};
 
 use files::Table;
-use reading::{Placed, Reading};
+use layout::Refusal;
+use reading::Part;
 use store::{Outcome, Stored};
 use window::Lookahead;
 
 // How many bytes were read.
 #[repr(C)]
-#[derive(Clone, Copy)]
+#[derive(Clone, Copy, Debug, PartialEq, Eq)]
 pub struct TidRead {
     pub code: i32,
     pub length: u32,
 }
 
-pub fn read_told(a: Reading) -> TidRead
-    ensures { result ≡ read_told a }
+pub fn read_told(length: Result<u32, Refusal>) -> TidRead
+    ensures { result ≡ read_told length }
 {
-    match a {
-        Reading::Bytes { length } => TidRead {
-            code: 0,
-            length: length,
-        },
-        Reading::Missing => TidRead {
-            code: -2,
-            length: 0,
-        },
-        Reading::Damaged => TidRead {
-            code: -84,
-            length: 0,
-        },
-        Reading::Refused => TidRead {
-            code: -22,
+    match length {
+        Ok(length) => TidRead { code: 0, length },
+        Err(refusal) => TidRead {
+            code: refusal.code(),
             length: 0,
         },
     }
@@ -43,34 +33,24 @@ pub fn read_told(a: Reading) -> TidRead
 
 // A part of the image: its first byte and its length.
 #[repr(C)]
-#[derive(Clone, Copy)]
+#[derive(Clone, Copy, Debug, PartialEq, Eq)]
 pub struct TidStretch {
     pub code: i32,
     pub place: u32,
     pub length: u32,
 }
 
-pub fn placed_told(p: Placed) -> TidStretch
-    ensures { result ≡ placed_told p }
+pub fn placed_told(part: Result<Part, Refusal>) -> TidStretch
+    ensures { result ≡ placed_told part }
 {
-    match p {
-        Placed::Part { place, length } => TidStretch {
+    match part {
+        Ok(Part { place, length }) => TidStretch {
             code: 0,
-            place: place,
-            length: length,
+            place,
+            length,
         },
-        Placed::Missing => TidStretch {
-            code: -2,
-            place: 0,
-            length: 0,
-        },
-        Placed::Damaged => TidStretch {
-            code: -84,
-            place: 0,
-            length: 0,
-        },
-        Placed::Refused => TidStretch {
-            code: -22,
+        Err(refusal) => TidStretch {
+            code: refusal.code(),
             place: 0,
             length: 0,
         },

@@ -1,6 +1,7 @@
 -- `place_in` answers what `stretch_in` gives, by the answer of the one lookup.
 use mathlib.Core.Path.{sym}
 use native.Mathlib.Omega.{arith}
+use Rattle.std.proofs.lemmas.Result.{err_from_is_err_and}
 use Rattle.reading.proofs.Inner.{place_past, place_part, place_lost, lies}
 use Rattle.reading.proofs.list.place_in.Goals as goal
 
@@ -9,18 +10,20 @@ returns-then-size-pos c = place_past _ _ _ _ _ _ c.if-size-pos.true
 
 pub overflow_mul-result : goal.overflow_mul-result
 overflow_mul-result c =
-    let i = lies c.args.image.now _ _ c.requires c.if-size-pos.false (sym c.in-Ok.ensures) in omega (arith, i.block)
+    let i = lies c.args.image.now _ _ c.requires c.if-size-pos.false (sym c.in_ok-found.ensures) in omega (arith, i.block)
 
 pub overflow_add-result : goal.overflow_add-result
 overflow_add-result c =
-    let i = lies c.args.image.now _ _ c.requires c.if-size-pos.false (sym c.in-Ok.ensures) in omega (arith, i.offset, i.block)
+    let i = lies c.args.image.now _ _ c.requires c.if-size-pos.false (sym c.in_ok-found.ensures) in omega (arith, i.offset, i.block)
 
 pub overflow_sub-b : goal.overflow_sub-b
 overflow_sub-b c =
-    let i = lies c.args.image.now _ _ c.requires c.if-size-pos.false (sym c.in-Ok.ensures) in omega (arith, i.offset)
+    let i = lies c.args.image.now _ _ c.requires c.if-size-pos.false (sym c.in_ok-found.ensures) in omega (arith, i.offset)
 
-pub returns-in-Ok : goal.returns-in-Ok
-returns-in-Ok c = place_part _ _ _ _ _ _ _ c.if-size-pos.false (sym c.in-Ok.ensures) c.min.ensures
+pub returns : goal.returns
+returns c = place_part _ _ _ _ _ _ _ c.if-size-pos.false (sym c.in_ok-found.ensures) c.min.ensures
 
-pub returns-in-Err : goal.returns-in-Err
-returns-in-Err c = place_lost _ _ _ c.requires c.if-size-pos.false (sym c.in-Err.ensures)
+pub returns-in_err-found : goal.returns-in_err-found
+returns-in_err-found c =
+    let p = err_from_is_err_and c.from_residual.result c.from_residual.ensures.1 in
+    rw (p.1, p.2) (place_lost _ _ _ c.requires c.if-size-pos.false (sym c.in_err-found.ensures))

@@ -2,6 +2,7 @@
 use mathlib.Core.Path.{ap, ◌∙◌}
 use Prim.Native.Nat.{min}
 use lib.ListN.{length}
+use Rattle.std.proofs.lemmas.Result.{err_from_is_err_and}
 use Rattle.reading.proofs.Inner.{roomy, read_none, read_damaged, read_copied}
 use Rattle.reading.proofs.list.read_in.Goals as goal
 
@@ -14,12 +15,13 @@ pub copy_found-requires : goal.copy_found-requires
 copy_found-requires c =
     roomy c.requires (c.min-count.ensures ∙ ap (min (length c.args.buffer.now)) c.saturating_sub.ensures) c.if-count-eq0.false
 
-pub returns-in-Ok : goal.returns-in-Ok
-returns-in-Ok c =
+pub returns : goal.returns
+returns c =
     let many = c.min-count.ensures ∙ ap (min (length c.args.buffer.now)) c.saturating_sub.ensures in
-    read_copied _ _ _ _ _ _ _ _ many (roomy c.requires many c.if-count-eq0.false).run _ _ c.copy_found.ensures c.in-Ok.is
+    read_copied _ _ _ _ _ _ _ _ many (roomy c.requires many c.if-count-eq0.false).run _ _ c.copy_found.ensures c.in_ok-copy_found.was
 
-pub returns-in-Err : goal.returns-in-Err
-returns-in-Err c =
+pub returns-in_err-copy_found : goal.returns-in_err-copy_found
+returns-in_err-copy_found c =
     let many = c.min-count.ensures ∙ ap (min (length c.args.buffer.now)) c.saturating_sub.ensures in
-    read_damaged _ _ _ _ _ _ _ _ many (roomy c.requires many c.if-count-eq0.false).run _ _ c.copy_found.ensures c.in-Err.is
+    let p = err_from_is_err_and c.from_residual.result c.from_residual.ensures.1 in
+    rw (p.1, p.2) (read_damaged _ _ _ _ _ _ _ _ many (roomy c.requires many c.if-count-eq0.false).run _ _ c.copy_found.ensures c.in_err-copy_found.was)
