@@ -1,3 +1,4 @@
 -- The laws of the replay.
 mod Listed
 mod Allotted
+mod Sought

@@ -1,6 +1,6 @@
 -- What the records on block lists ask, from the words and parts that were read. Assumes nothing.
 use mathlib.Core.Path.{◌≡◌, refl, ◌∙◌}
-use mathlib.Core.Bool.{Bool, false}
+use mathlib.Core.Bool.{false}
 use mathlib.Core.List.{List}
 use Prim.Native.Nat.{ℕ, zero, suc, ◌+◌, ◌-◌, ◌≤◌, ◌<◌}
 use native.Mathlib.Numerals.{add-one}
@@ -11,45 +11,18 @@ use lib.Signed.{mag}
 use mir.Syntax.{w32}
 use mir.Val.{to_z, of_z}
 use Rattle.layout.specs.declared.Geometry.{Geometry}
-use Rattle.std.specs.Prelude.{Option, None, Some, Result, Ok, Err}
-use Rattle.layout.specs.declared.Place.{Place}
+use Rattle.std.specs.Prelude.{None, Some, Result, Ok, Err}
 use Rattle.layout.specs.declared.Refusal.{Refusal}
 use Rattle.layout.specs.declared.Refusal.TheVariants.{Missing, TableFull, Exists, Invalid, TooLarge, NoSpace, Damaged}
 use Rattle.layout.specs.Refusals.{refusal_code}
-use Rattle.layout.specs.Layout.{place_of}
-use Rattle.layout.specs.inner.Served.{block_list, geometry}
 use Rattle.card.specs.inner.Cards.{card_with}
 use Rattle.ctz.specs.declared.visit.Visit.{Visit}
 use Rattle.ctz.specs.declared.visit.Step.{Step}
-use Rattle.ctz.specs.Lookup.{lookup_of}
-use Rattle.ctz.specs.Visits.{begin_of, traverse_of}
-use Rattle.told_lists.specs.declared.TidIndex.{TidIndex}
-use Rattle.told_lists.specs.declared.TidFind.{TidFind}
-use Rattle.told_lists.specs.Lists.{place_told, found_told}
+use Rattle.ctz.specs.Visits.{traverse_of}
 use Rattle.records.specs.Records.{word_of, geometry_of, image_of}
 use Rattle.records.specs.Agreement.{bare_of, told_of}
 use Rattle.records.proofs.Bare.{bare_is}
-use Rattle.replay.specs.Lists.{index_equal, lookup_on, find_equal, step_on, visited_of, begun_equal, visit_on, visit_equal}
-
-pub index_is : (list : List ℕ) (at b p code : ℕ) (f : Result Place Refusal) (a : TidIndex) (r : Bool) → b ≡ word_of list at 4 → p ≡ word_of list at 5 → f ≡ place_of b p → a ≡ place_told f
-    → code ≡ bare_of a.code
-    → r ≡ told_of list at code a.index a.offset 0
-    → r ≡ index_equal list at
-unfolding index_equal
-index_is list at b p code f a r x y e t k q = q ∙ rw (k, t, index_equal, e, x, y)
-
--- a lookup on a card, and the record of it
-pub lookup_is : (list : List ℕ) (card : ℕ) (g : Geometry) (image : List ℕ) (h s p : ℕ) (f : Result Found Refusal) → g ≡ geometry_of list card → image ≡ image_of list card
-    → f ≡ lookup_of (card_with g.block_size g.block_count image) (block_list h s) p → f ≡ lookup_on list card h s p
-lookup_is list card g image h s p f x y e = e ∙ rw (x, y)
-
-pub find_is : (list : List ℕ) (at card h s p code : ℕ) (f : Result Found Refusal) (a : TidFind) (r : Bool) → card ≡ word_of list at 4 → h ≡ word_of list at 5 → s ≡ word_of list at 6 → p ≡ word_of list at 7
-    → f ≡ lookup_on list card h s p → a ≡ found_told f
-    → code ≡ bare_of a.code
-    → r ≡ told_of list at code a.block a.offset a.hops
-    → r ≡ find_equal list at
-unfolding find_equal
-find_is list at card h s p code f a r w x y z e t k q = q ∙ rw (k, t, find_equal, e, w, x, y, z)
+use Rattle.replay.specs.Lists.{step_on, visited_of}
 
 -- a refusal's number without its sign
 pub refusal_is : (f : Refusal) (z : ℤ) (code : ℕ) → z ≡ refusal_code f → code ≡ bare_of (to_z w32 (of_z w32 z)) → code ≡ bare_of (refusal_code f)
@@ -63,24 +36,6 @@ refusal_is f z code e q = bare_is (refusal_code f) code (small f) (q ∙ rw e re
     small TooLarge = omega arith
     small NoSpace = omega arith
     small Damaged = omega arith
-
--- a visit on a card, and the record of it
-pub visit_begins : (list : List ℕ) (card : ℕ) (g : Geometry) (h s : ℕ) (b : Result (Option Visit) Refusal) → g ≡ geometry_of list card
-    → b ≡ begin_of (geometry g.block_size g.block_count) (block_list h s) → b ≡ visit_on list card h s
-visit_begins list card g h s b x e = e ∙ rw x
-
-pub visit_is : (list : List ℕ) (at card h s : ℕ) (b : Result (Option Visit) Refusal) (r : Bool) → card ≡ word_of list at 4 → h ≡ word_of list at 5 → s ≡ word_of list at 6
-    → b ≡ visit_on list card h s → r ≡ begun_equal list at card (word_of list at 7) b → r ≡ visit_equal list at
-unfolding visit_equal
-visit_is list at card h s b r x y z e q = q ∙ rw (visit_equal, e, x, y, z)
-
-pub visited_is : (list : List ℕ) (at card blocks : ℕ) (v : Visit) (r : Bool) → blocks ≡ word_of list at 7 → r ≡ visited_of 64 list at card blocks 0 v
-    → r ≡ begun_equal list at card (word_of list at 7) (Ok (Some v))
-visited_is list at card blocks v r x q = q ∙ rw x
-
-pub begin_refused : (list : List ℕ) (at card : ℕ) (f : Refusal) (code : ℕ) (r : Bool) → code ≡ bare_of (refusal_code f) → r ≡ told_of list at code 0 0 0
-    → r ≡ begun_equal list at card (word_of list at 7) (Err f)
-begin_refused list at card f code r x q = q ∙ rw x
 
 pub step_is : (list : List ℕ) (card : ℕ) (g : Geometry) (image : List ℕ) (v : Visit) (s : Result Step Refusal) → g ≡ geometry_of list card → image ≡ image_of list card
     → s ≡ traverse_of (card_with g.block_size g.block_count image) v → s ≡ step_on list card v
