@@ -6,6 +6,7 @@ use native.Mathlib.Nat.{le_of_dvd}
 use native.Mathlib.Omega.{arith}
 use borrow.Author.Tests.{eq-eqb, ne_eqb}
 use Rattle.std.specs.Prelude.{Option, None, Some}
+use Rattle.layout.proofs.Bits.{trailing_lt}
 use Rattle.hops.specs.Walk.{ctz}
 use Rattle.hops.proofs.Digits.{dvd_of_ctz}
 use Rattle.card.specs.Card.{pointer}
@@ -16,9 +17,12 @@ use Rattle.audit.specs.Check.{names, further, and_then}
 use Rattle.audit.specs.inner.Bounds.{holder, CleanWalk}
 use Rattle.audit.proofs.Falling.{down_first}
 
--- a pointer that index i stores leads no further down than i
+-- a pointer that index i stores leads no further down than i, and its number is a shift of a u32
 pub stored_within : (i x : ℕ) → 0 < i → x ≤ ctz i → 2 ^ x ≤ i
 stored_within i x p h = le_of_dvd p (dvd_of_ctz 32 i x h)
+
+pub stored_width : (i : ℕ) → 0 < i → i < 2 ^ 32 → ctz i ≤ 31
+stored_width i p h = omega (arith, trailing_lt 32 32 i p h)
 
 pub down_none : (ptr : ℕ → ℕ → ℕ) (k : ℕ) → down ptr k 0 ≡ k
 unfolding down
