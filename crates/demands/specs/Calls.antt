@@ -5,7 +5,7 @@ use Rattle.files.specs.declared.change.Changed.{Changed}
 use Rattle.files.specs.Change.{create_of, remove_of, change_code}
 use Rattle.grow.specs.Setting.{Setting, State}
 use Rattle.store.specs.Asked.{WriteAsked, TruncateAsked}
-use Rattle.store.specs.Store.{StoreOut, store_write, store_truncate, outcome_code}
+use Rattle.store.specs.Store.{StoreOut, store_write, store_truncate, answer_code}
 
 -- Create and remove name a file number. Size, read, stretch and seek change nothing: each of them is a look.
 pub data Call : Type 0 where
@@ -27,7 +27,7 @@ changed_in s c =
 
 -- write and truncate
 abbrev pub stored_in : StoreOut → Left
-stored_in o = record { code = outcome_code o.answer; state = o.state }
+stored_in o = record { code = answer_code o.answer; state = o.state }
 
 -- one call
 unfoldable pub after : Setting → Call → State → Left

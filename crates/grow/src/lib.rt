@@ -5,7 +5,9 @@ pub mod attempts;
 mod block;
 
 ghost use Rattle.std.specs.Prelude.{◌≡◌};
+ghost use Rattle.grow.specs.Setting.{tested_of};
 ghost use Rattle.grow.specs.Extend.{extend_of};
+ghost use Rattle.grow.specs.inner.Setting.{setting};
 ghost use Rattle.grow.specs.inner.Extend.{extend_tested};
 ghost use Rattle.grow.specs.inner.Gives.{GrewGives};
 
@@ -33,7 +35,19 @@ pub struct Grew {
     pub window: Lookahead,
 }
 
-// Whether a growth is not refused: geometry and slices, L, window and table, size.
+// Whether a call that writes passes its first tests: geometry and slices, health bytes, L, and the window.
+#[tactic(auto, using(crate::proofs::Tests::lookahead_most), unfolding(crate::specs::Setting::tested_of))]
+pub fn valid_setting(g: Geometry, l: u32, len: usize, health: &[u8], w: Lookahead) -> bool
+    ensures { result ≡ tested_of (setting g.block_size g.block_count l health.now) w len }
+{
+    card::good_card(g, len)
+        && health::good_health(health, g.block_count)
+        && window::valid_lookahead(l)
+        && window::valid_window(w, g.block_count, l)
+}
+
+// Whether a growth is not refused: the first tests, then table and size.
+#[tactic(auto, unfolding(crate::specs::inner::Extend::extend_tested))]
 fn valid_extend(
     g: Geometry,
     l: u32,
@@ -45,23 +59,7 @@ fn valid_extend(
 ) -> bool
     ensures { result ≡ extend_tested g.block_size g.block_count l len health.now t w size }
 {
-    let n = g.block_count;
-    if !card::good_card(g, len) {
-        return false;
-    }
-    if !health::good_health(health, n) {
-        return false;
-    }
-    if !window::valid_lookahead(l) {
-        return false;
-    }
-    if !window::valid_window(w, n, l) {
-        return false;
-    }
-    if !files::valid_table(t) {
-        return false;
-    }
-    size <= Geometry::FILE_MAX
+    valid_setting(g, l, len, health, w) && files::valid_table(t) && size <= Geometry::FILE_MAX
 }
 
 // The next last block of the list (head, size), for every input: allocated, erased, and linked or filled with the last block's bytes. Refused: all as it came.

@@ -9,30 +9,15 @@ ghost use Rattle.store.specs.inner.Gives.{StoreGives};
 
 use file::{truncate_file, write_file};
 use files::Table;
-use layout::Geometry;
-use steps::{left, valid_store};
+use grow::valid_setting;
+use layout::{Geometry, Refusal};
+use steps::left;
 use window::Lookahead;
-
-// What a write or truncate answers.
-#[derive(Clone, Copy)]
-pub enum Outcome {
-    Done,
-    // No such file: -2.
-    Missing,
-    // Position plus length is above the largest size: -27.
-    TooLarge,
-    // Fewer blocks are left than it needs: -28.
-    Full,
-    // A block number that is not below the block count: -84.
-    Damaged,
-    // -22.
-    Refused,
-}
 
 // The answer, with the window and the table after the call.
 #[derive(Clone, Copy)]
 pub struct Stored {
-    pub answer: Outcome,
+    pub answer: Result<(), Refusal>,
     pub window: Lookahead,
     pub table: Table,
 }
@@ -56,11 +41,10 @@ pub fn write(
         (record { number = number; position = pos; bytes = «data».now }))
         result image.new }
 {
-    if !valid_store(g, l, image.len(), health, w) {
-        return left(Outcome::Refused, w, t);
+    if !valid_setting(g, l, image.len(), health, w) {
+        return left(Err(Refusal::Invalid), w, t);
     }
-    let place = files::find(t, number);
-    match place {
+    match files::find(t, number) {
         files::Found::At(i) => write_file(
             g.block_size,
             g.block_count,
@@ -73,8 +57,8 @@ pub fn write(
             pos,
             data,
         ),
-        files::Found::Missing => left(Outcome::Missing, w, t),
-        files::Found::Refused => left(Outcome::Refused, w, t),
+        files::Found::Missing => left(Err(Refusal::Missing), w, t),
+        files::Found::Refused => left(Err(Refusal::Invalid), w, t),
     }
 }
 
@@ -96,11 +80,10 @@ pub fn truncate(
         (record { number = number; size = size }))
         result image.new }
 {
-    if !valid_store(g, l, image.len(), health, w) {
-        return left(Outcome::Refused, w, t);
+    if !valid_setting(g, l, image.len(), health, w) {
+        return left(Err(Refusal::Invalid), w, t);
     }
-    let place = files::find(t, number);
-    match place {
+    match files::find(t, number) {
         files::Found::At(i) => truncate_file(
             g.block_size,
             g.block_count,
@@ -112,7 +95,7 @@ pub fn truncate(
             i,
             size,
         ),
-        files::Found::Missing => left(Outcome::Missing, w, t),
-        files::Found::Refused => left(Outcome::Refused, w, t),
+        files::Found::Missing => left(Err(Refusal::Missing), w, t),
+        files::Found::Refused => left(Err(Refusal::Invalid), w, t),
     }
 }

@@ -3,7 +3,7 @@ use Rattle.reading.specs.declared.Reading.{Reading}
 use Rattle.reading.specs.declared.Placed.{Placed}
 use Rattle.reading.specs.Calls.{read_code, read_length, placed_code, placed_place, placed_length}
 use Rattle.store.specs.declared.Stored.{Stored}
-use Rattle.store.specs.Store.{outcome_code}
+use Rattle.store.specs.Store.{answer_code}
 use Rattle.told_files.specs.declared.TidRead.{TidRead}
 use Rattle.told_files.specs.declared.TidStretch.{TidStretch}
 use Rattle.told_files.specs.declared.TidStore.{TidStore}
@@ -16,4 +16,4 @@ placed_told p = record { code = placed_code p; place = placed_place p; length = 
 
 -- window and table as the call leaves them
 abbrev pub stored_told : Stored → TidStore
-stored_told s = record { code = outcome_code s.answer; window = s.window; table = s.table }
+stored_told s = record { code = answer_code s.answer; window = s.window; table = s.table }
