@@ -4,7 +4,10 @@ use mathlib.Core.List.{List}
 use Prim.Native.Nat.{ℕ, suc, ◌+◌, ◌-◌, ◌≤◌, ◌<◌}
 use native.Mathlib.Omega.{arith}
 use lib.ListN.{length}
+use Rattle.std.specs.Prelude.{Ok, Err}
 use Rattle.layout.specs.Numbers.{size_max}
+use Rattle.layout.specs.declared.Refusal.TheVariants as refusal
+use Rattle.layout.specs.inner.Served.{block_list}
 use Rattle.files.specs.declared.Entry.{Entry}
 use Rattle.files.specs.declared.Table.{Table}
 use Rattle.window.specs.declared.Lookahead.{Lookahead}
@@ -20,7 +23,6 @@ use Rattle.old_list.specs.inner.Lookups.{look_in}
 use Rattle.new_block.specs.declared.Filled.{Filled}
 use Rattle.new_block.specs.declared.Filled.TheVariants.{Done, Spoiled, Damaged}
 use Rattle.new_block.specs.inner.Fill.{fill_of, FillGives, Filling}
-use Rattle.new_list.specs.declared.Writing.TheVariants as writing
 use Rattle.new_list.specs.declared.Wrote.{Wrote}
 use Rattle.new_list.specs.inner.Put.{on_by, on_from, wrote_of, WroteGives, Putting}
 use Rattle.new_list.proofs.Turns as turns
@@ -37,9 +39,6 @@ pub record Rest (B N l : ℕ) (health : List ℕ) (t : Table) (e : Entry) (pos :
 pub wrote : {o : WriteOut Lookahead} (a : Writing) (after : List ℕ) (v : Lookahead) → o ≡ write_out a after v
     → WroteGives o (record { answer = wrote_of a; window = v }) after
 wrote a after v e = rw e (record { answer = refl; window = refl; image = refl })
-
-pub wrote_as : {o : WriteOut Lookahead} {r s : Wrote} {after : List ℕ} → r ≡ s → WroteGives o s after → WroteGives o r after
-wrote_as e g = rw e g
 
 module _ {B N l : ℕ} {health : List ℕ} {t : Table} {e : Entry} {pos : ℕ} {src : List ℕ} {w₀ : Lookahead} {img₀ : List ℕ}
     (x : Putting B N l img₀ health t w₀ e pos src) where
@@ -62,7 +61,7 @@ module _ {B N l : ℕ} {health : List ℕ} {t : Table} {e : Entry} {pos : ℕ} {
 
     -- all is written
     pub ends_done : new (job_of e pos src) ≤ s
-        → WroteGives (on_from B N l health t e pos src w₀ h₀ s₀ img₀) (record { answer = writing.Written h s; window = w }) img
+        → WroteGives (on_from B N l health t e pos src w₀ h₀ s₀ img₀) (record { answer = Ok (block_list h s); window = w }) img
     unfolding on_by
     ends_done d = wrote (Written h s) img w (begun ∙ turns.write_done _ _ _ (r.growths - 1) _ _ _ _ w h s img d)
 
@@ -79,21 +78,21 @@ module _ {B N l : ℕ} {health : List ℕ} {t : Table} {e : Entry} {pos : ℕ} {
       -- the growth answered
       module _ {g : Grew} {img₁ : List ℕ} (p : GrewGives (extend_in B N l health t w h s img) g img₁) where
         pub ends_full : g.answer ≡ growth.Full
-            → WroteGives (on_from B N l health t e pos src w₀ h₀ s₀ img₀) (record { answer = writing.NoRoom; window = g.window }) img₁
+            → WroteGives (on_from B N l health t e pos src w₀ h₀ s₀ img₀) (record { answer = Err refusal.NoSpace; window = g.window }) img₁
         unfolding on_by extend_in
         ends_full a =
             wrote NoRoom img₁ g.window
             (begun ∙ turns.write_full _ _ _ (r.growths - 1) _ _ _ _ w h s img d (sym p.window) (sym p.image) (sym p.answer ∙ a))
 
         pub ends_damaged : g.answer ≡ growth.Damaged
-            → WroteGives (on_from B N l health t e pos src w₀ h₀ s₀ img₀) (record { answer = writing.Corrupt; window = g.window }) img₁
+            → WroteGives (on_from B N l health t e pos src w₀ h₀ s₀ img₀) (record { answer = Err refusal.Damaged; window = g.window }) img₁
         unfolding on_by extend_in
         ends_damaged a =
             wrote Corrupt img₁ g.window
             (begun ∙ turns.write_damaged _ _ _ (r.growths - 1) _ _ _ _ w h s img d (sym p.window) (sym p.image) (sym p.answer ∙ a))
 
         pub ends_refused : g.answer ≡ growth.Refused
-            → WroteGives (on_from B N l health t e pos src w₀ h₀ s₀ img₀) (record { answer = writing.Corrupt; window = g.window }) img₁
+            → WroteGives (on_from B N l health t e pos src w₀ h₀ s₀ img₀) (record { answer = Err refusal.Damaged; window = g.window }) img₁
         unfolding on_by extend_in
         ends_refused a =
             wrote Corrupt img₁ g.window
@@ -126,7 +125,7 @@ module _ {B N l : ℕ} {health : List ℕ} {t : Table} {e : Entry} {pos : ℕ} {
           -- the filling answered
           module _ {f : Filled} {img₂ : List ℕ} (y : FillGives (fill_of (look_in B N e) health B (job_of e pos src) k off s img₁) f img₂) where
             pub ends_lost : f ≡ Damaged
-                → WroteGives (on_from B N l health t e pos src w₀ h₀ s₀ img₀) (record { answer = writing.Corrupt; window = g.window }) img₂
+                → WroteGives (on_from B N l health t e pos src w₀ h₀ s₀ img₀) (record { answer = Err refusal.Damaged; window = g.window }) img₂
             unfolding on_by extend_in
             ends_lost c =
                 wrote Corrupt img₂ g.window

@@ -6,7 +6,9 @@ use Prim.Native.Nat.{ℕ, ◌+◌, ◌-◌, min, ◌≤◌}
 use native.Mathlib.Omega.{arith}
 use lib.Dec.{ltb}
 use lib.ListN.{length}
+use Rattle.std.specs.Prelude.{Ok, Err}
 use Rattle.layout.specs.Layout.{index_at, start}
+use Rattle.layout.specs.declared.Refusal.TheVariants as refusal
 use Rattle.ctz.specs.inner.Bounds.{ListFacts}
 use Rattle.files.specs.declared.Entry.{Entry}
 use Rattle.files.specs.declared.Table.{Table}
@@ -20,7 +22,6 @@ use Rattle.old_list.specs.declared.Looked.TheVariants as looked-as
 use Rattle.old_list.specs.Write.{Job, Look, over, kept, zeros, when, wanted, looked, first_head, job_of}
 use Rattle.old_list.specs.inner.Lookups.{looked_of, kept_wanted, tail_wanted, found_if, kept_of, look_in}
 use Rattle.old_list.proofs.Looks.{looked_append, told_block, told_lost}
-use Rattle.new_list.specs.declared.Writing.TheVariants as writing
 use Rattle.new_list.specs.declared.Wrote.{Wrote}
 use Rattle.new_list.specs.inner.Put.{on_by, on_from, WroteGives, Putting, puts}
 use Rattle.new_list.specs.inner.Write.{put_of}
@@ -75,7 +76,7 @@ module _ {B N l : ℕ} {img health : List ℕ} {t : Table} {w : Lookahead} {e : 
 
     module _ {q : ℕ} (eq : q ≡ min pos e.size) {r : Looked} (g : r ≡ looked_of (kept_of (look_in B N e) B img q)) where
       -- a kept block is lost
-      pub put_lost : r ≡ looked-as.Lost → WroteGives (puts B N l health t e pos src w img) (record { answer = writing.Corrupt; window = v }) img
+      pub put_lost : r ≡ looked-as.Lost → WroteGives (puts B N l health t e pos src w img) (record { answer = Err refusal.Damaged; window = v }) img
       unfolding puts put_of
       put_lost a =
           let k : looked ((look_in B N e) img) (kept_wanted B (kept (job_of e pos src))) ≡ false
@@ -88,7 +89,7 @@ module _ {B N l : ℕ} {img health : List ℕ} {t : Table} {w : Lookahead} {e : 
 
         -- a block of the tail is lost
         pub put_tailless : {y : Bool} → y ≡ looked ((look_in B N e) img) (tail_wanted B (pos + length src) e.size) → y ≡ false
-            → WroteGives (puts B N l health t e pos src w img) (record { answer = writing.Corrupt; window = v }) img
+            → WroteGives (puts B N l health t e pos src w img) (record { answer = Err refusal.Damaged; window = v }) img
         unfolding puts put_of
         put_tailless z f =
             let k = kept_all.0 in

@@ -1,43 +1,24 @@
 // A write by growths, each new block filled before the next growth.
 #![tactic(auto)]
 
-ghost use Rattle.std.specs.Prelude.{◌≡◌};
-ghost use Rattle.new_list.specs.inner.Put.{ended_of, on_from, WroteGives, Putting, puts};
+ghost use Rattle.new_list.specs.inner.Put.{on_from, WroteGives, Putting, puts};
 
 use files::{Entry, Table};
 use grow::Growth;
+use layout::{BlockList, Refusal};
 use new_block::numbers::{beyond, least};
 use new_block::{Filled, fill_block};
 use old_list::{Looked, first_head, tail_looked};
 use window::Lookahead;
 
-// What a write gives, before the table changes.
-#[derive(Clone, Copy)]
-pub enum Writing {
-    Written { head: u32, size: u32 },
-    // -28.
-    NoRoom,
-    // -84.
-    Corrupt,
-}
-
+// What a write gives, before the table changes: the written list, and the window after it.
 #[derive(Clone, Copy)]
 pub struct Wrote {
-    pub answer: Writing,
+    pub answer: Result<BlockList, Refusal>,
     pub window: Lookahead,
 }
 
-// What a write gives at its end.
-fn ended(answer: Writing, w: Lookahead) -> Wrote
-    ensures { result ≡ ended_of answer w }
-{
-    Wrote {
-        answer: answer,
-        window: w,
-    }
-}
-
-// The growths of a write from the list (head, size) on, each new block filled before the next growth.
+// The growths of a write from `list` on, each new block filled before the next growth.
 fn write_on(
     b: u32,
     n: u32,
@@ -45,53 +26,63 @@ fn write_on(
     image: &mut [u8],
     health: &[u8],
     t: Table,
-    w: Lookahead,
+    mut window: Lookahead,
     e: Entry,
     pos: u32,
     data: &[u8],
-    head: u32,
-    size: u32,
+    mut list: BlockList,
 ) -> Wrote
-    requires { Putting b n l image.old health.now t w e pos «data».now }
+    requires { Putting b n l image.old health.now t window e pos «data».now }
     ensures { WroteGives
-        (on_from b n l health.now t e pos «data».now w head size image.old)
+        (on_from b n l health.now t e pos «data».now window list.head list.size image.old)
         result image.new }
 {
     let over = pos + data.len() as u32;
     let new = e.size + beyond(over, e.size);
-    let mut window = w;
-    let mut h = head;
-    let mut s = size;
-    while s < new {
-        let grew = grow::attempts::extend_in(b, n, l, image, health, t, window, h, s);
+    while list.size < new {
+        let grew = grow::attempts::extend_in(
+            b, n, l, image, health, t, window, list.head, list.size,
+        );
         window = grew.window;
-        let answer = grew.answer;
-        match answer {
+        match grew.answer {
             Growth::Grown { block, offset } => {
-                let filled = fill_block(image, health, b, n, e, pos, data, block, offset, s);
-                match filled {
-                    Filled::Done(so_far) => {
-                        h = block;
-                        s = so_far;
+                match fill_block(image, health, b, n, e, pos, data, block, offset, list.size) {
+                    Filled::Done(size) => {
+                        list = BlockList { head: block, size };
                     }
                     Filled::Spoiled => {}
                     Filled::Damaged => {
-                        return ended(Writing::Corrupt, window);
+                        return Wrote {
+                            answer: Err(Refusal::Damaged),
+                            window,
+                        };
                     }
                 }
             }
             Growth::Full => {
-                return ended(Writing::NoRoom, window);
+                return Wrote {
+                    answer: Err(Refusal::NoSpace),
+                    window,
+                };
             }
             Growth::Damaged => {
-                return ended(Writing::Corrupt, window);
+                return Wrote {
+                    answer: Err(Refusal::Damaged),
+                    window,
+                };
             }
             Growth::Refused => {
-                return ended(Writing::Corrupt, window);
+                return Wrote {
+                    answer: Err(Refusal::Damaged),
+                    window,
+                };
             }
         }
     }
-    ended(Writing::Written { head: h, size: s }, window)
+    Wrote {
+        answer: Ok(list),
+        window,
+    }
 }
 
 // A write of at least one byte, or a gap: the checkpoint, the lookups, then the growths.
@@ -112,16 +103,33 @@ pub fn put(
         (puts b n l health.now t e pos «data».now w image.old)
         result image.new }
 {
-    let v = window::alloc_ckpoint(w, n);
+    let window = window::alloc_ckpoint(w, n);
     let q = least(pos, e.size);
-    let first = first_head(b, n, &image[..], e, q);
-    match first {
+    match first_head(b, n, &image[..], e, q) {
         Looked::Block(head) => {
             if tail_looked(b, n, &image[..], e, pos + data.len() as u32) {
-                return write_on(b, n, l, image, health, t, v, e, pos, data, head, q);
+                return write_on(
+                    b,
+                    n,
+                    l,
+                    image,
+                    health,
+                    t,
+                    window,
+                    e,
+                    pos,
+                    data,
+                    BlockList { head, size: q },
+                );
             }
-            ended(Writing::Corrupt, v)
+            Wrote {
+                answer: Err(Refusal::Damaged),
+                window,
+            }
         }
-        Looked::Lost => ended(Writing::Corrupt, v),
+        Looked::Lost => Wrote {
+            answer: Err(Refusal::Damaged),
+            window,
+        },
     }
 }

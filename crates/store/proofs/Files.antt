@@ -20,8 +20,6 @@ use Rattle.files.specs.Change.{with_list}
 use Rattle.window.specs.declared.Lookahead.{Lookahead}
 use Rattle.trials.specs.Loop.{Writing, Written, NoRoom, Corrupt, WriteOut}
 use Rattle.old_list.specs.Write.{zeros}
-use Rattle.new_list.specs.declared.Writing as declared
-use Rattle.new_list.specs.declared.Writing.TheVariants as writing
 use Rattle.new_list.specs.declared.Wrote.{Wrote}
 use Rattle.new_list.specs.inner.Put.{wrote_of, WroteGives, puts}
 use Rattle.new_list.proofs.Puts.{puts_as_gap}
@@ -36,18 +34,6 @@ pub gives : {o : StoreOut} {a : Answer} {w : Lookahead} {t : Table} {image : Lis
 gives e f = rw (e, f) (record { stored = refl; image = refl })
 
 -- ---- the table changes last
-
-pub finish_written : (t : Table) (i h s : ℕ) {a : declared.Writing} {u : Table} (w : Lookahead) → a ≡ writing.Written h s → u ≡ with_list t i (record { head = h; size = s })
-    → record { answer = Ok tt; window = w; table = u } ≡ finish_of t i a w
-finish_written t i h s w e f = rw (e, f)
-
-pub finish_full : (t : Table) (i : ℕ) {a : declared.Writing} (w : Lookahead) → a ≡ writing.NoRoom
-    → record { answer = Err refusal.NoSpace; window = w; table = t } ≡ finish_of t i a w
-finish_full t i w e = rw e
-
-pub finish_lost : (t : Table) (i : ℕ) {a : declared.Writing} (w : Lookahead) → a ≡ writing.Corrupt
-    → record { answer = Err refusal.Damaged; window = w; table = t } ≡ finish_of t i a w
-finish_lost t i w e = rw e
 
 pub finishes : (t : Table) (i : ℕ) {o : WriteOut Lookahead} {r : Wrote} {after : List ℕ} {s : Stored} → WroteGives o r after
     → s ≡ finish_of t i r.answer r.window → StoreGives (written_of t i o) s after

@@ -8,7 +8,7 @@ ghost use Rattle.store.specs.inner.Store.{stays, shrinks};
 use super::Stored;
 use files::Table;
 use layout::{Geometry, Refusal};
-use new_list::{Writing, Wrote};
+use new_list::Wrote;
 use window::Lookahead;
 
 // An answer, with window and table as they are.
@@ -27,16 +27,14 @@ pub fn finish(t: Table, i: u32, wrote: Wrote) -> Stored
     requires { i < files_max }
     ensures { result ≡ finish_of t i wrote.answer wrote.window }
 {
-    let answer = wrote.answer;
-    let w = wrote.window;
-    match answer {
-        Writing::Written { head, size } => Stored {
+    let window = wrote.window;
+    match wrote.answer {
+        Ok(list) => Stored {
             answer: Ok(()),
-            window: w,
-            table: files::change::put(t, i, size, head),
+            window,
+            table: files::change::put(t, i, list.size, list.head),
         },
-        Writing::NoRoom => left(Err(Refusal::NoSpace), w, t),
-        Writing::Corrupt => left(Err(Refusal::Damaged), w, t),
+        Err(refusal) => left(Err(refusal), window, t),
     }
 }
 

@@ -1,6 +1,10 @@
 -- The growths of a write with the window as their allocator: what the inner functions leave, and what they ask.
-use Rattle.std.specs.Prelude.{◌≡◌, List, ℕ, suc, ◌+◌, ◌≤◌, length}
+use Rattle.std.specs.Prelude.{◌≡◌, Result, Ok, Err, List, ℕ, suc, ◌+◌, ◌≤◌, length}
 use Rattle.layout.specs.Numbers.{size_max}
+use Rattle.layout.specs.Layout.{BlockList}
+use Rattle.layout.specs.declared.Refusal.{Refusal}
+use Rattle.layout.specs.declared.Refusal.TheVariants.{NoSpace, Damaged}
+use Rattle.layout.specs.inner.Served.{block_list}
 use Rattle.files.specs.declared.Entry.{Entry}
 use Rattle.files.specs.declared.Table.{Table}
 use Rattle.window.specs.declared.Lookahead.{Lookahead}
@@ -10,8 +14,6 @@ use Rattle.trials.specs.Loop.{Writing, Written, NoRoom, Corrupt, WriteOut}
 use Rattle.grow.specs.inner.Extend.{window_alloc}
 use Rattle.old_list.specs.Write.{job_of}
 use Rattle.old_list.specs.inner.Lookups.{look_in}
-use Rattle.new_list.specs.declared.Writing.TheVariants as writing
-use Rattle.new_list.specs.declared.Writing as declared
 use Rattle.new_list.specs.declared.Wrote.{Wrote}
 use Rattle.new_list.specs.inner.Write.{write_of, put_of}
 
@@ -29,13 +31,10 @@ puts B N l health t e p src w image =
     put_of (look_in B N e) (λ (v : Lookahead). v.ckpoint) (window_alloc B N l t) health B N (job_of e p src) (checkpoint_of N w) image
 
 -- the code's answer for a definition's
-abbrev pub wrote_of : Writing → declared.Writing
-wrote_of (Written h s) = writing.Written h s
-wrote_of NoRoom = writing.NoRoom
-wrote_of Corrupt = writing.Corrupt
-
-abbrev pub ended_of : declared.Writing → Lookahead → Wrote
-ended_of a w = record { answer = a; window = w }
+abbrev pub wrote_of : Writing → Result BlockList Refusal
+wrote_of (Written h s) = Ok (block_list h s)
+wrote_of NoRoom = Err NoSpace
+wrote_of Corrupt = Err Damaged
 
 -- r is the answer and the window, and `after` the image, that a definition gives
 pub record WroteGives (o : WriteOut Lookahead) (r : Wrote) (after : List ℕ) : Type 0 where
