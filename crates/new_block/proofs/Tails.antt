@@ -5,6 +5,8 @@ use Prim.Native.Nat.{ℕ, ◌+◌, ◌-◌, ◌*◌, ◌≤◌, ◌<◌}
 use native.Mathlib.Omega.{arith}
 use borrow.Author.Tests.{lt-ltb, le-ltb}
 use lib.ListN.{length, take, drop}
+use Rattle.std.specs.Prelude.{Result, Ok, Err}
+use Rattle.layout.specs.declared.Refusal.{Refusal}
 use Rattle.device.specs.declared.Programmed.{Programmed}
 use Rattle.device.specs.inner.Steps.{ProgramOut, program_of, ProgramGives}
 use Rattle.device.specs.inner.Bounds.{RoomIn, CopyFrom, Blank}
@@ -14,8 +16,6 @@ use Rattle.files.specs.declared.Entry.{Entry}
 use Rattle.grow.specs.inner.Attempt.{Linking}
 use Rattle.grow.specs.inner.Grow.{part}
 use Rattle.grow.proofs.Rooms.{room_of, source_of}
-use Rattle.old_list.specs.declared.Looked.{Looked}
-use Rattle.old_list.specs.declared.Looked.TheVariants as looked-as
 use Rattle.old_list.specs.Write.{Look}
 use Rattle.old_list.specs.inner.Lookups.{looked_of, look_in}
 use Rattle.old_list.proofs.Looks.{told_block, told_lost, look_below}
@@ -34,14 +34,14 @@ module _ {B N : ℕ} {e : Entry} {k off s m past : ℕ} {image health : List ℕ
     pub tail_looks : ListFacts B N e.size (length image) × (s + at < e.size)
     tail_looks = (record { card = f.card; most = f.most }, omega (arith, f.below (omega arith)))
 
-    module _ {r : Looked} (er : r ≡ looked_of (look_in B N e image (s + at))) where
-      pub tail_lost : r ≡ looked-as.Lost → FillGives (tail_of (look_in B N e) B k off s m past image) Damaged image
+    module _ {r : Result ℕ Refusal} (er : r ≡ looked_of (look_in B N e image (s + at))) where
+      pub tail_lost : (x : Refusal) → r ≡ Err x → FillGives (tail_of (look_in B N e) B k off s m past image) Damaged image
       unfolding tail_of
-      tail_lost x =
-          let lost = told_lost (look_in B N e image (s + at)) (sym er ∙ x) in
-          filled Damaged image (rw (tail_of, ← ea, lt-ltb at m l, ← ea, lost))
+      tail_lost y x =
+          let lost = told_lost (look_in B N e image (s + at)) y (sym er ∙ x) in
+          filled Damaged image (rw (tail_of, ← ea, lt-ltb at m l, ← ea, lost.0))
 
-      module _ {ob : ℕ} (x : r ≡ looked-as.Block ob) where
+      module _ {ob : ℕ} (x : r ≡ Ok ob) where
         found : look_in B N e image (s + at) ≡ Look.Found ob
         found = told_block (look_in B N e image (s + at)) ob (sym er ∙ x)
 

@@ -14,7 +14,7 @@ ghost use Rattle.new_block.specs.inner.Fill.{front_of, tail_of, fill_of, FillGiv
 use device::Programmed;
 use files::Entry;
 use numbers::{beyond, least};
-use old_list::{Looked, look};
+use old_list::look;
 
 // What filling a new block gives: the size so far, that the block refused, or -84.
 #[derive(Clone, Copy)]
@@ -86,13 +86,12 @@ fn tail(
     if m <= at {
         return Filled::Done(s + m);
     }
-    let old = look(b, n, &image[..], e, s + at);
-    match old {
-        Looked::Block(block) => {
+    match look(b, n, &image[..], e, s + at) {
+        Ok(block) => {
             programs::program_copy(image, health, b, k, off + at, block, off + at, m - at);
             Filled::Done(s + m)
         }
-        Looked::Lost => Filled::Damaged,
+        Err(_) => Filled::Damaged,
     }
 }
 

@@ -1,14 +1,18 @@
 // A write by growths, each new block filled before the next growth.
 #![tactic(auto)]
 
-ghost use Rattle.new_list.specs.inner.Put.{on_from, WroteGives, Putting, puts};
+ghost use Rattle.std.specs.Prelude.{◌≡◌, min, ◌≤◌, length};
+ghost use Rattle.layout.specs.Numbers.{size_max};
+ghost use Rattle.ctz.specs.inner.Bounds.{ListFacts};
+ghost use Rattle.old_list.specs.inner.Lookups.{look_in};
+ghost use Rattle.new_list.specs.inner.Put.{head_of, on_from, WroteGives, Putting, puts};
 
 use files::{Entry, Table};
 use grow::Growth;
 use layout::{BlockList, Refusal};
 use new_block::numbers::{beyond, least};
 use new_block::{Filled, fill_block};
-use old_list::{Looked, first_head, tail_looked};
+use old_list::{first_head, tail_looked};
 use window::Lookahead;
 
 // What a write gives, before the table changes: the written list, and the window after it.
@@ -85,6 +89,16 @@ fn write_on(
     }
 }
 
+// The head of the first growth, once every block that the write copies is found.
+fn looked_up(b: u32, n: u32, image: &[u8], e: Entry, pos: u32, over: u32) -> Result<u32, Refusal>
+    requires { ListFacts b n e.size (length image.now) × (over ≤ size_max) }
+    ensures { result ≡ head_of (look_in b n e) b image.now (min pos e.size) over e.size }
+{
+    let head = first_head(b, n, image, e, least(pos, e.size))?;
+    tail_looked(b, n, image, e, over)?;
+    Ok(head)
+}
+
 // A write of at least one byte, or a gap: the checkpoint, the lookups, then the growths.
 pub fn put(
     b: u32,
@@ -104,31 +118,16 @@ pub fn put(
         result image.new }
 {
     let window = window::alloc_ckpoint(w, n);
-    let q = least(pos, e.size);
-    match first_head(b, n, &image[..], e, q) {
-        Looked::Block(head) => {
-            if tail_looked(b, n, &image[..], e, pos + data.len() as u32) {
-                return write_on(
-                    b,
-                    n,
-                    l,
-                    image,
-                    health,
-                    t,
-                    window,
-                    e,
-                    pos,
-                    data,
-                    BlockList { head, size: q },
-                );
-            }
-            Wrote {
-                answer: Err(Refusal::Damaged),
-                window,
-            }
+    match looked_up(b, n, &image[..], e, pos, pos + data.len() as u32) {
+        Ok(head) => {
+            let kept = BlockList {
+                head,
+                size: least(pos, e.size),
+            };
+            write_on(b, n, l, image, health, t, window, e, pos, data, kept)
         }
-        Looked::Lost => Wrote {
-            answer: Err(Refusal::Damaged),
+        Err(refusal) => Wrote {
+            answer: Err(refusal),
             window,
         },
     }

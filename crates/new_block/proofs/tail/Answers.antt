@@ -6,19 +6,19 @@ pub returns-then-m-at : goal.returns-then-m-at
 returns-then-m-at c =
     tail_none c.requires _ c.beyond-at.ensures c.if-m-at.true
 
-pub look-old-requires : goal.look-old-requires
-look-old-requires c =
+pub look-requires : goal.look-requires
+look-requires c =
     tail_looks c.requires _ c.beyond-at.ensures c.if-m-at.false
 
 pub program_copy-requires : goal.program_copy-requires
 program_copy-requires c =
-    tail_asks c.requires _ c.beyond-at.ensures c.if-m-at.false c.look-old.ensures c.in-Block.is
+    tail_asks c.requires _ c.beyond-at.ensures c.if-m-at.false c.look.ensures c.in-Ok.is
 
-pub returns-in-Block : goal.returns-in-Block
-returns-in-Block c =
-    tail_copied c.requires _ c.beyond-at.ensures c.if-m-at.false c.look-old.ensures c.in-Block.is
+pub returns-in-Ok : goal.returns-in-Ok
+returns-in-Ok c =
+    tail_copied c.requires _ c.beyond-at.ensures c.if-m-at.false c.look.ensures c.in-Ok.is
     c.program_copy.ensures
 
-pub returns-in-Lost : goal.returns-in-Lost
-returns-in-Lost c =
-    tail_lost c.requires _ c.beyond-at.ensures c.if-m-at.false c.look-old.ensures c.in-Lost.is
+pub returns-in-Err : goal.returns-in-Err
+returns-in-Err c =
+    tail_lost c.requires _ c.beyond-at.ensures c.if-m-at.false c.look.ensures _ c.in-Err.is

@@ -1,5 +1,5 @@
 -- The growths of a write with the window as their allocator: what the inner functions leave, and what they ask.
-use Rattle.std.specs.Prelude.{◌≡◌, Result, Ok, Err, List, ℕ, suc, ◌+◌, ◌≤◌, length}
+use Rattle.std.specs.Prelude.{◌≡◌, ◌&&◌, Result, Ok, Err, List, ℕ, suc, ◌+◌, ◌≤◌, length}
 use Rattle.layout.specs.Numbers.{size_max}
 use Rattle.layout.specs.Layout.{BlockList}
 use Rattle.layout.specs.declared.Refusal.{Refusal}
@@ -12,8 +12,8 @@ use Rattle.window.specs.Value.{checkpoint_of}
 use Rattle.alloc.specs.inner.Facts.{Ready}
 use Rattle.trials.specs.Loop.{Writing, Written, NoRoom, Corrupt, WriteOut}
 use Rattle.grow.specs.inner.Extend.{window_alloc}
-use Rattle.old_list.specs.Write.{job_of}
-use Rattle.old_list.specs.inner.Lookups.{look_in}
+use Rattle.old_list.specs.Write.{Look, looked, first_head, job_of}
+use Rattle.old_list.specs.inner.Lookups.{looked_of, found_if, kept_wanted, tail_wanted, look_in}
 use Rattle.new_list.specs.declared.Wrote.{Wrote}
 use Rattle.new_list.specs.inner.Write.{write_of, put_of}
 
@@ -35,6 +35,11 @@ abbrev pub wrote_of : Writing → Result BlockList Refusal
 wrote_of (Written h s) = Ok (block_list h s)
 wrote_of NoRoom = Err NoSpace
 wrote_of Corrupt = Err Damaged
+
+-- the head of the first growth, once all that is kept of the first q bytes or copied from position `over` on is found
+unfoldable pub head_of : (List ℕ → ℕ → Look) → ℕ → List ℕ → ℕ → ℕ → ℕ → Result ℕ Refusal
+head_of look B img q over old =
+    looked_of (found_if (looked (look img) (kept_wanted B q) && looked (look img) (tail_wanted B over old)) (first_head (look img) q))
 
 -- r is the answer and the window, and `after` the image, that a definition gives
 pub record WroteGives (o : WriteOut Lookahead) (r : Wrote) (after : List ℕ) : Type 0 where
