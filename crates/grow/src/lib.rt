@@ -5,6 +5,7 @@ pub mod attempts;
 mod block;
 
 ghost use Rattle.std.specs.Prelude.{◌≡◌};
+ghost use Rattle.grow.specs.declared.Failed.TheVariants.{Refused};
 ghost use Rattle.grow.specs.Setting.{tested_of};
 ghost use Rattle.grow.specs.Extend.{extend_of};
 ghost use Rattle.grow.specs.inner.Setting.{setting};
@@ -13,25 +14,36 @@ ghost use Rattle.grow.specs.inner.Gives.{GrewGives};
 
 use attempts::extend_scan;
 use files::Table;
-use layout::Geometry;
+use layout::{Geometry, Refusal};
 use window::Lookahead;
 
-// What a growth answers.
-#[derive(Clone, Copy)]
-pub enum Growth {
-    // The new last block, and where in it the next byte goes.
-    Grown { block: u32, offset: u32 },
-    // No block is left: -28.
-    Full,
-    // A block number that is not below the block count: -84.
-    Damaged,
-    // -22.
-    Refused,
+// The new last block of a list, and where in it the next byte goes.
+#[derive(Clone, Copy, Debug, PartialEq, Eq)]
+pub struct Grown {
+    pub block: u32,
+    pub offset: u32,
 }
 
+// Why a try with one block comes to nothing.
+#[derive(Clone, Copy, Debug, PartialEq, Eq)]
+pub enum Failed {
+    // The block refuses its erase or first program, and another one may be tried.
+    Spoiled,
+    Refused(Refusal),
+}
+
+impl From<Refusal> for Failed {
+    ghost from_gives = { λ refusal e. e ≡ Refused refusal };
+
+    fn from(refusal: Refusal) -> Failed {
+        Failed::Refused(refusal)
+    }
+}
+
+// What a growth answers, and the window after it.
 #[derive(Clone, Copy)]
 pub struct Grew {
-    pub answer: Growth,
+    pub answer: Result<Grown, Refusal>,
     pub window: Lookahead,
 }
 
@@ -94,7 +106,7 @@ pub fn ctz_extend(
         );
     }
     Grew {
-        answer: Growth::Refused,
+        answer: Err(Refusal::Invalid),
         window: w,
     }
 }

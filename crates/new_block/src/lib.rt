@@ -13,16 +13,9 @@ ghost use Rattle.new_block.specs.inner.Fill.{front_of, tail_of, fill_of, FillGiv
 
 use device::Programmed;
 use files::Entry;
+use grow::Failed;
 use numbers::{beyond, least};
 use old_list::look;
-
-// What filling a new block gives: the size so far, that the block refused, or -84.
-#[derive(Clone, Copy)]
-pub enum Filled {
-    Done(u32),
-    Spoiled,
-    Damaged,
-}
 
 // The front of the `m` positions from `s` on in block `k`: the gap's zeros, then data.
 fn front(
@@ -42,8 +35,7 @@ fn front(
         result image.new }
 {
     let gap = least(beyond(pos, s), m);
-    let put = programs::program_zeros(image, health, b, k, off, gap);
-    match put {
+    match programs::program_zeros(image, health, b, k, off, gap) {
         Programmed::Stored => {}
         Programmed::Refused => {
             return Programmed::Refused;
@@ -76,7 +68,7 @@ fn tail(
     s: u32,
     m: u32,
     past: u32,
-) -> Filled
+) -> Result<u32, Failed>
     requires { Tailing b n e k off s m past image.old health.now }
     ensures { FillGives
         (tail_of (look_in b n e) b k off s m past image.old)
@@ -84,18 +76,14 @@ fn tail(
 {
     let at = beyond(past, s);
     if m <= at {
-        return Filled::Done(s + m);
+        return Ok(s + m);
     }
-    match look(b, n, &image[..], e, s + at) {
-        Ok(block) => {
-            programs::program_copy(image, health, b, k, off + at, block, off + at, m - at);
-            Filled::Done(s + m)
-        }
-        Err(_) => Filled::Damaged,
-    }
+    let block = look(b, n, &image[..], e, s + at)?;
+    programs::program_copy(image, health, b, k, off + at, block, off + at, m - at);
+    Ok(s + m)
 }
 
-// Block `k` filled from position `s` on: gap and data, then the tail of the old file.
+// Block `k` filled from position `s` on: gap and data, then the tail of the old file. It gives the size so far.
 pub fn fill_block(
     image: &mut [u8],
     health: &[u8],
@@ -107,7 +95,7 @@ pub fn fill_block(
     k: u32,
     off: u32,
     s: u32,
-) -> Filled
+) -> Result<u32, Failed>
     requires { Filling b n e pos «data».now k off s image.old health.now }
     ensures { FillGives
         (fill_of (look_in b n e) health.now b (job_of e pos «data».now) k off s image.old)
@@ -116,9 +104,8 @@ pub fn fill_block(
     let past = pos + data.len() as u32;
     let new = e.size + beyond(past, e.size);
     let m = least(new - s, b - off);
-    let put = front(image, health, b, k, off, s, m, pos, data);
-    match put {
+    match front(image, health, b, k, off, s, m, pos, data) {
         Programmed::Stored => tail(image, health, b, n, e, k, off, s, m, past),
-        Programmed::Refused => Filled::Spoiled,
+        Programmed::Refused => Err(Failed::Spoiled),
     }
 }

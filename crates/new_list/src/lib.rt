@@ -8,10 +8,10 @@ ghost use Rattle.old_list.specs.inner.Lookups.{look_in};
 ghost use Rattle.new_list.specs.inner.Put.{head_of, on_from, WroteGives, Putting, puts};
 
 use files::{Entry, Table};
-use grow::Growth;
+use grow::Failed;
 use layout::{BlockList, Refusal};
+use new_block::fill_block;
 use new_block::numbers::{beyond, least};
-use new_block::{Filled, fill_block};
 use old_list::{first_head, tail_looked};
 use window::Lookahead;
 
@@ -49,35 +49,35 @@ fn write_on(
         );
         window = grew.window;
         match grew.answer {
-            Growth::Grown { block, offset } => {
-                match fill_block(image, health, b, n, e, pos, data, block, offset, list.size) {
-                    Filled::Done(size) => {
-                        list = BlockList { head: block, size };
-                    }
-                    Filled::Spoiled => {}
-                    Filled::Damaged => {
+            Ok(grown) => {
+                match fill_block(
+                    image,
+                    health,
+                    b,
+                    n,
+                    e,
+                    pos,
+                    data,
+                    grown.block,
+                    grown.offset,
+                    list.size,
+                ) {
+                    Ok(size) => list = BlockList {
+                        head: grown.block,
+                        size,
+                    },
+                    Err(Failed::Spoiled) => {}
+                    Err(Failed::Refused(refusal)) => {
                         return Wrote {
-                            answer: Err(Refusal::Damaged),
+                            answer: Err(refusal),
                             window,
                         };
                     }
                 }
             }
-            Growth::Full => {
+            Err(refusal) => {
                 return Wrote {
-                    answer: Err(Refusal::NoSpace),
-                    window,
-                };
-            }
-            Growth::Damaged => {
-                return Wrote {
-                    answer: Err(Refusal::Damaged),
-                    window,
-                };
-            }
-            Growth::Refused => {
-                return Wrote {
-                    answer: Err(Refusal::Damaged),
+                    answer: Err(refusal),
                     window,
                 };
             }

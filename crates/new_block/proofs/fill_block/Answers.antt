@@ -2,20 +2,20 @@
 use Rattle.new_block.proofs.Fills.{front_asks, tail_asked, fill_spoiled, fill_on}
 use Rattle.new_block.proofs.fill_block.Goals as goal
 
-pub front-put-requires : goal.front-put-requires
-front-put-requires c =
+pub front-requires : goal.front-requires
+front-requires c =
     front_asks c.requires c.beyond.ensures c.least-m.ensures
 
 pub tail-requires : goal.tail-requires
 tail-requires c =
-    tail_asked c.requires c.beyond.ensures c.least-m.ensures c.front-put.ensures c.in-Stored.is
-    c.front-put.auto.image
+    tail_asked c.requires c.beyond.ensures c.least-m.ensures c.front.ensures c.in-Stored.is
+    c.front.auto.image
 
 pub returns-in-Stored : goal.returns-in-Stored
 returns-in-Stored c =
-    fill_on c.requires c.beyond.ensures c.least-m.ensures c.front-put.ensures c.in-Stored.is
+    fill_on c.requires c.beyond.ensures c.least-m.ensures c.front.ensures c.in-Stored.is
     c.tail.ensures
 
 pub returns-in-Refused : goal.returns-in-Refused
 returns-in-Refused c =
-    fill_spoiled c.requires c.beyond.ensures c.least-m.ensures c.front-put.ensures c.in-Refused.is
+    fill_spoiled c.requires c.beyond.ensures c.least-m.ensures c.front.ensures c.in-Refused.is

@@ -1,4 +1,5 @@
 -- `new_block::tail` meets its contract: behind the front the tail is not due, its block is lost, or it is copied. Assumes nothing.
+use Rattle.std.proofs.lemmas.Result.{err_from_is_err_and}
 use Rattle.new_block.proofs.Tails.{tail_none, tail_looks, tail_lost, tail_asks, tail_copied}
 use Rattle.new_block.proofs.tail.Goals as goal
 
@@ -12,13 +13,14 @@ look-requires c =
 
 pub program_copy-requires : goal.program_copy-requires
 program_copy-requires c =
-    tail_asks c.requires _ c.beyond-at.ensures c.if-m-at.false c.look.ensures c.in-Ok.is
+    tail_asks c.requires _ c.beyond-at.ensures c.if-m-at.false c.look.ensures c.in_ok-block.was
 
-pub returns-in-Ok : goal.returns-in-Ok
-returns-in-Ok c =
-    tail_copied c.requires _ c.beyond-at.ensures c.if-m-at.false c.look.ensures c.in-Ok.is
+pub returns : goal.returns
+returns c =
+    tail_copied c.requires _ c.beyond-at.ensures c.if-m-at.false c.look.ensures c.in_ok-block.was
     c.program_copy.ensures
 
-pub returns-in-Err : goal.returns-in-Err
-returns-in-Err c =
-    tail_lost c.requires _ c.beyond-at.ensures c.if-m-at.false c.look.ensures _ c.in-Err.is
+pub returns-in_err-block : goal.returns-in_err-block
+returns-in_err-block c =
+    let p = err_from_is_err_and c.from_residual.result c.from_residual.ensures.1 in
+    rw (p.1, p.2) (tail_lost c.requires _ c.beyond-at.ensures c.if-m-at.false c.look.ensures _ c.in_err-block.was)

@@ -1,5 +1,7 @@
 -- `new_list::write_on` meets its contract: what is left to do equals the whole write (`Rest`), and each growth lowers the checkpoint count. Assumes nothing.
-use Rattle.new_list.proofs.Goes.{rest_start, rest_extends, rest_fills, falls, goes_on, moves_on, ends_done, ends_full, ends_damaged, ends_refused, ends_lost, loop_new, loop_end}
+use mathlib.Core.Path.{ap, ◌∙◌}
+use Rattle.std.specs.Prelude.{Ok, Err}
+use Rattle.new_list.proofs.Goes.{rest_start, rest_extends, rest_fills, falls, goes_on, moves_on, ends_done, ends_stopped, ends_lost, loop_new, loop_end}
 use Rattle.new_list.proofs.write_on.Goals as goal
 
 pub loop-list-init : goal.loop-list-init
@@ -12,49 +14,40 @@ extend_in-grew-requires c =
 pub fill_block-requires : goal.fill_block-requires
 fill_block-requires c =
     rest_fills c.requires c.loop-list.invariant (loop_new c.requires c.beyond.ensures c.loop-list-test.true) c.extend_in-grew.ensures
-    c.in-Grown.is c.extend_in-grew.auto.image
+    c.in-Ok.is c.extend_in-grew.auto.image
 
-pub loop-list-smaller-in-Done : goal.loop-list-smaller-in-Done
-loop-list-smaller-in-Done c =
+pub loop-list-smaller-in-Ok-fill_block : goal.loop-list-smaller-in-Ok-fill_block
+loop-list-smaller-in-Ok-fill_block c =
     falls c.requires c.loop-list.invariant (loop_new c.requires c.beyond.ensures c.loop-list-test.true) c.extend_in-grew.ensures
-    c.in-Grown.is
+    c.in-Ok.is
 
-pub loop-list-preserved-in-Done : goal.loop-list-preserved-in-Done
-loop-list-preserved-in-Done c =
+pub loop-list-preserved-in-Ok-fill_block : goal.loop-list-preserved-in-Ok-fill_block
+loop-list-preserved-in-Ok-fill_block c =
     goes_on c.requires c.loop-list.invariant (loop_new c.requires c.beyond.ensures c.loop-list-test.true) c.extend_in-grew.ensures
-    c.in-Grown.is c.fill_block.ensures c.extend_in-grew.auto.image
-    c.fill_block.auto.image _ c.in-Done.is
+    c.in-Ok.is c.fill_block.ensures c.extend_in-grew.auto.image
+    c.fill_block.auto.image _ c.in-Ok-fill_block.is
 
 pub loop-list-smaller : goal.loop-list-smaller
 loop-list-smaller c =
     falls c.requires c.loop-list.invariant (loop_new c.requires c.beyond.ensures c.loop-list-test.true) c.extend_in-grew.ensures
-    c.in-Grown.is
+    c.in-Ok.is
 
 pub loop-list-preserved : goal.loop-list-preserved
 loop-list-preserved c =
     moves_on c.requires c.loop-list.invariant (loop_new c.requires c.beyond.ensures c.loop-list-test.true) c.extend_in-grew.ensures
-    c.in-Grown.is c.fill_block.ensures c.extend_in-grew.auto.image
-    c.fill_block.auto.image c.in-Spoiled.is
+    c.in-Ok.is c.fill_block.ensures c.extend_in-grew.auto.image
+    c.fill_block.auto.image (c.in-Err-Spoiled.is ∙ ap Err c.in-Err-Spoiled.field-0-is)
 
-pub returns-in-Damaged-fill_block : goal.returns-in-Damaged-fill_block
-returns-in-Damaged-fill_block c =
-    ends_lost c.requires c.loop-list.invariant (loop_new c.requires c.beyond.ensures c.loop-list-test.true) c.extend_in-grew.ensures
-    c.in-Grown.is c.fill_block.ensures c.in-Damaged-fill_block.is
+pub returns-in-Err-Refused : goal.returns-in-Err-Refused
+returns-in-Err-Refused c =
+    rw c.in-Err-Refused.refusal-is
+    (ends_lost c.requires c.loop-list.invariant (loop_new c.requires c.beyond.ensures c.loop-list-test.true) c.extend_in-grew.ensures
+    c.in-Ok.is c.fill_block.ensures _ (c.in-Err-Refused.is ∙ ap Err c.in-Err-Refused.field-0-is))
 
-pub returns-in-Full : goal.returns-in-Full
-returns-in-Full c =
-    ends_full c.requires c.loop-list.invariant (loop_new c.requires c.beyond.ensures c.loop-list-test.true)
-    c.extend_in-grew.ensures c.in-Full.is
-
-pub returns-in-Damaged : goal.returns-in-Damaged
-returns-in-Damaged c =
-    ends_damaged c.requires c.loop-list.invariant (loop_new c.requires c.beyond.ensures c.loop-list-test.true)
-    c.extend_in-grew.ensures c.in-Damaged.is
-
-pub returns-in-Refused : goal.returns-in-Refused
-returns-in-Refused c =
-    ends_refused c.requires c.loop-list.invariant (loop_new c.requires c.beyond.ensures c.loop-list-test.true)
-    c.extend_in-grew.ensures c.in-Refused.is
+pub returns-in-Err : goal.returns-in-Err
+returns-in-Err c =
+    ends_stopped c.requires c.loop-list.invariant (loop_new c.requires c.beyond.ensures c.loop-list-test.true)
+    c.extend_in-grew.ensures _ c.in-Err.is
 
 pub returns : goal.returns
 returns c =

@@ -38,8 +38,8 @@ returns-then-used-b c =
     (omega (arith, c.offset_at-used.ensures, c.if-used-b.true)) c.index_at-index.ensures c.pointer_count-count.ensures)
     c.put_pointers.ensures
 
-pub program_copy-put-requires : goal.program_copy-put-requires
-program_copy-put-requires c =
+pub program_copy-requires : goal.program_copy-requires
+program_copy-requires c =
     let u = used_fits c.requires.0.card.sized (c.args.size - 1) (omega arith) in
     let r = c.offset_at-used.ensures in
     (room_of _ _ _ c.requires.0 refl (omega arith), source_of _ _ _ c.requires.0 (omega arith) (omega arith), blank_part _ _ (omega arith) (omega arith) c.requires.2)
@@ -48,11 +48,11 @@ pub returns-in-Stored : goal.returns-in-Stored
 returns-in-Stored c =
     let a = c.args in
     gives _ _
-    (attempt_copied a.health.now a.b a.n a.k a.head a.size a.image.now (a.size - 1) (omega arith) _ (omega arith) c.program_copy-put.ensures (omega (arith, c.offset_at-used.ensures))
+    (attempt_copied a.health.now a.b a.n a.k a.head a.size a.image.now (a.size - 1) (omega arith) _ (omega arith) c.program_copy.ensures (omega (arith, c.offset_at-used.ensures))
     c.if-used-b.false c.in-Stored.is)
 
 pub returns-in-Refused : goal.returns-in-Refused
 returns-in-Refused c =
     let a = c.args in
     gives _ _
-    (attempt_spoiled a.health.now a.b a.n a.k a.head a.size a.image.now (a.size - 1) (omega arith) (c.offset_at-used.result + 1) (omega arith) c.program_copy-put.ensures c.in-Refused.is)
+    (attempt_spoiled a.health.now a.b a.n a.k a.head a.size a.image.now (a.size - 1) (omega arith) (c.offset_at-used.result + 1) (omega arith) c.program_copy.ensures c.in-Refused.is)

@@ -19,8 +19,8 @@ returns-then-n-cur c =
     (c.loop-x.invariant.2
     ∙ put_damaged a.health.now a.b a.n a.k (4 * a.count) a.count c.loop-x.x c.loop-x.cur c.loop-x.image (search rules) (search rules))
 
-pub program_word-put-requires : goal.program_word-put-requires
-program_word-put-requires c =
+pub program_word-requires : goal.program_word-requires
+program_word-requires c =
     (room_of _ _ _ c.requires.0 c.loop-x.invariant.1 (omega arith), blank_part _ _ (omega arith) (omega arith) c.loop-x.invariant.3)
 
 pub returns-in-Refused : goal.returns-in-Refused
@@ -29,11 +29,11 @@ returns-in-Refused c =
     gives _ _
     (c.loop-x.invariant.2
     ∙ put_spoiled a.health.now a.b a.n a.k (4 * a.count) a.count c.loop-x.x c.loop-x.cur c.loop-x.image (search rules) (search rules)
-    c.program_word-put.ensures c.in-Refused.is)
+    c.program_word.ensures c.in-Refused.is)
 
 pub pointer-cur-requires : goal.pointer-cur-requires
 pointer-cur-requires c =
-    asked_of _ _ _ c.requires.0 (omega (arith, c.program_word-put.auto.image)) (omega arith) (omega arith)
+    asked_of _ _ _ c.requires.0 (omega (arith, c.program_word.auto.image)) (omega arith) (omega arith)
 
 pub loop-x-preserved : goal.loop-x-preserved
 loop-x-preserved c =
@@ -42,8 +42,8 @@ loop-x-preserved c =
       search rules,
       c.loop-x.invariant.2
           ∙ put_turn a.health.now a.b a.n a.k (4 * a.count) a.count c.loop-x.x c.loop-x.cur c.loop-x.image (search rules) (search rules)
-          c.program_word-put.ensures _ c.in-Stored.is c.pointer-cur.ensures,
-      words_blank a.health.now a.count c.loop-x.x c.loop-x.cur (search rules) c.program_word-put.ensures
+          c.program_word.ensures _ c.in-Stored.is c.pointer-cur.ensures,
+      words_blank a.health.now a.count c.loop-x.x c.loop-x.cur (search rules) c.program_word.ensures
           c.loop-x.invariant.3,
     )
 

@@ -5,20 +5,20 @@ use Rattle.grow.proofs.Tries.{try_kept, try_wiped}
 use borrow.Author.Rules.{rules}
 use Rattle.grow.proofs.block.try_block.Goals as goal
 
-pub erase-erased-requires : goal.erase-erased-requires
-erase-erased-requires c =
+pub erase-requires : goal.erase-requires
+erase-requires c =
     block_of c.requires.0
 
 pub link-requires : goal.link-requires
 link-requires c =
-    (search rules, search rules, blank_erased _ _ c.erase-erased.ensures c.in-Wiped.is)
+    (search rules, search rules, blank_erased _ _ c.erase.ensures c.in-Wiped.is)
 
 pub returns-in-Wiped : goal.returns-in-Wiped
 returns-in-Wiped c =
     let a = c.args in
-    rw (try_wiped a.health.now a.b a.n a.k a.head a.size a.image.now c.erase-erased.ensures c.in-Wiped.is) c.link.ensures
+    rw (try_wiped a.health.now a.b a.n a.k a.head a.size a.image.now c.erase.ensures c.in-Wiped.is) c.link.ensures
 
 pub returns-in-Kept : goal.returns-in-Kept
 returns-in-Kept c =
     let a = c.args in
-    gives _ _ (try_kept a.health.now a.b a.n a.k a.head a.size a.image.now c.erase-erased.ensures c.in-Kept.is)
+    gives _ _ (try_kept a.health.now a.b a.n a.k a.head a.size a.image.now c.erase.ensures c.in-Kept.is)
