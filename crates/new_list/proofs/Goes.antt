@@ -14,7 +14,7 @@ use Rattle.files.specs.declared.Entry.{Entry}
 use Rattle.files.specs.declared.Table.{Table}
 use Rattle.window.specs.declared.Lookahead.{Lookahead}
 use Rattle.window.specs.inner.Facts.{ValidWindow}
-use Rattle.trials.specs.Loop.{Writing, Written, NoRoom, Corrupt, WriteOut, write_out}
+use Rattle.trials.specs.Loop.{Writing, Written, Corrupt, WriteOut, write_out}
 use Rattle.grow.specs.declared.Failed.TheVariants as failed
 use Rattle.grow.specs.declared.Grew.{Grew}
 use Rattle.grow.specs.Extend.{grown_at}
@@ -25,7 +25,6 @@ use Rattle.old_list.specs.Write.{new, job_of}
 use Rattle.old_list.specs.inner.Lookups.{look_in}
 use Rattle.new_block.specs.inner.Fill.{Filled, fill_of, FillGives, Filling}
 use Rattle.new_block.proofs.Fills.{fill_refusal}
-use Rattle.new_list.specs.declared.Wrote.{Wrote}
 use Rattle.new_list.specs.inner.Put.{on_by, on_from, wrote_of, WroteGives, Putting}
 use Rattle.new_list.specs.inner.Write.{stopped}
 use Rattle.new_list.proofs.Turns as turns

@@ -8,7 +8,7 @@ use lib.Dec.{ltb}
 use Rattle.std.specs.Prelude.{Ok, Err}
 use Rattle.layout.specs.declared.Refusal.{Refusal}
 use Rattle.health.specs.Health.{refuses_program}
-use Rattle.trials.specs.Loop.{Took, Written, NoRoom, Corrupt, WriteOut, write_out}
+use Rattle.trials.specs.Loop.{Took, Written, Corrupt, WriteOut, write_out}
 use Rattle.grow.specs.declared.Failed.TheVariants as failed
 use Rattle.grow.specs.Extend.{grown_at}
 use Rattle.grow.specs.inner.Grow.{grow_of}

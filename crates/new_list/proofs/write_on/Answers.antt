@@ -1,6 +1,6 @@
 -- `new_list::write_on` meets its contract: what is left to do equals the whole write (`Rest`), and each growth lowers the checkpoint count. Assumes nothing.
 use mathlib.Core.Path.{ap, ◌∙◌}
-use Rattle.std.specs.Prelude.{Ok, Err}
+use Rattle.std.specs.Prelude.{Err}
 use Rattle.new_list.proofs.Goes.{rest_start, rest_extends, rest_fills, falls, goes_on, moves_on, ends_done, ends_stopped, ends_lost, loop_new, loop_end}
 use Rattle.new_list.proofs.write_on.Goals as goal
 
