@@ -3,6 +3,9 @@ use mathlib.Core.Path.{◌≡◌, refl}
 use mathlib.Core.Logic.{◌⊎◌, inl, inr}
 use Prim.Native.Nat.{ℕ}
 use lib.IntN.{pos, negsuc}
+use Rattle.std.specs.Prelude.{Ok, Err}
+use Rattle.layout.specs.declared.Refusal.{Refusal}
+use Rattle.layout.specs.declared.Refusal.TheVariants as refusal
 use Rattle.files.specs.declared.Table.{Table}
 use Rattle.std.specs.Prelude.{Result, Ok, Err}
 use Rattle.layout.specs.declared.Refusal.{Refusal}
@@ -10,8 +13,7 @@ use Rattle.layout.specs.declared.Refusal.TheVariants as refusal
 use Rattle.files.specs.Change.{changed}
 use Rattle.files.proofs.Kept.{create_cases, remove_cases}
 use Rattle.grow.specs.Setting.{Setting, State}
-use Rattle.store.specs.declared.Outcome.TheVariants as outcome
-use Rattle.store.specs.Store.{StoreOut}
+use Rattle.store.specs.Store.{StoreOut, left}
 use Rattle.store.proofs.Refusals as refusals
 use Rattle.demands.specs.Calls.{Call, create, remove, write, truncate, look, Left, changed_in, stored_in, after}
 
@@ -37,12 +39,17 @@ module _ (s : State) where
   refused_any (Err refusal.Damaged) n = unchanged 83 refl refl
 
   stored_any : {o : StoreOut} → refusals.Ends s.window t s.image o → AnyEnd s (stored_in o)
-  stored_any (refusals.kept outcome.Done) = done refl
-  stored_any (refusals.kept outcome.Missing) = unchanged 1 refl refl
-  stored_any (refusals.kept outcome.TooLarge) = unchanged 26 refl refl
-  stored_any (refusals.kept outcome.Full) = unchanged 27 refl refl
-  stored_any (refusals.kept outcome.Damaged) = unchanged 83 refl refl
-  stored_any (refusals.kept outcome.Refused) = unchanged 21 refl refl
+  stored_any (refusals.kept (Ok u)) = done refl
+  stored_any (refusals.kept (Err r)) = refused r
+    where
+      refused : (r : Refusal) → AnyEnd s (stored_in (left (Err r) s.window t s.image))
+      refused refusal.Missing = unchanged 1 refl refl
+      refused refusal.TableFull = unchanged 11 refl refl
+      refused refusal.Exists = unchanged 16 refl refl
+      refused refusal.Invalid = unchanged 21 refl refl
+      refused refusal.TooLarge = unchanged 26 refl refl
+      refused refusal.NoSpace = unchanged 27 refl refl
+      refused refusal.Damaged = unchanged 83 refl refl
   stored_any (refusals.done w i size head image) = done refl
   stored_any (refusals.full w image) = stopped 27 (inl refl) refl refl
   stored_any (refusals.damaged w image) = stopped 83 (inr refl) refl refl

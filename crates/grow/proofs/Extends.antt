@@ -4,31 +4,30 @@ use mathlib.Core.List.{List}
 use Prim.Native.Nat.{ℕ, suc, ◌-◌, ◌<◌}
 use native.Mathlib.Omega.{arith}
 use lib.ListN.{length}
+use Rattle.std.specs.Prelude.{Err}
 use Rattle.layout.specs.declared.Refusal.TheVariants as refusal
 use Rattle.card.specs.inner.Cards.{card_with}
 use Rattle.files.specs.declared.Table.{Table}
-use Rattle.layout.specs.declared.Refusal.{Refusal}
-use Rattle.std.specs.Prelude.{Ok, Err, Option, Some}
-use Rattle.window.specs.declared.Windowed.{Windowed}
 use Rattle.window.specs.declared.Lookahead.{Lookahead}
-use Rattle.window.specs.Allocate.{take_of, alloc_of, Allocated}
+use Rattle.window.specs.declared.Got.TheVariants as got
+use Rattle.window.specs.declared.Taken.{Taken}
+use Rattle.window.specs.declared.Answer.TheVariants as answer
+use Rattle.window.specs.declared.Allocated.{Allocated}
+use Rattle.window.specs.Allocate.{take_of, alloc_of}
 use Rattle.window.specs.inner.Facts.{ValidWindow, scope}
 use Rattle.alloc.specs.Visits.{seen_in}
 use Rattle.alloc.specs.inner.Facts.{Ready}
 use Rattle.alloc.proofs.Turning.{allocating, answers_block}
-use Rattle.grow.specs.declared.Growth.{Growth}
-use Rattle.grow.specs.declared.Growth.TheVariants.{Full, Damaged}
 use Rattle.grow.specs.declared.Grew.{Grew}
-use Rattle.grow.specs.declared.block.Linked.{Linked}
-use Rattle.grow.specs.declared.block.Linked.TheVariants.{Done, Spoiled}
-use Rattle.grow.specs.Extend.{GrowOut, grow_out}
-use Rattle.grow.specs.inner.Attempt.{try_of, LinkGives, Linking}
+use Rattle.grow.specs.declared.Failed.TheVariants as failed
+use Rattle.grow.specs.Extend.{Growth, GrowOut, grow_out}
+use Rattle.grow.specs.inner.Attempt.{Tried, tried_of, try_of, LinkGives, Linking}
 use Rattle.grow.specs.inner.Grow.{grow_of}
 use Rattle.grow.specs.inner.Extend.{window_alloc, extend_in, Extending}
 use Rattle.grow.specs.inner.Gives.{GrewGives}
 use Rattle.grow.proofs.Turns.{grow_none, grow_bad}
 use Rattle.grow.proofs.Tries.{grow_done, grow_moves}
-use Rattle.grow.proofs.Takes.{Outcome, allocated, took_block, took_none, took_bad}
+use Rattle.grow.proofs.Takes.{Outcome, allocated, took_block, took_none, took_bad, took_refused}
 
 -- window w and image img, in the middle of a growth from window w₀ and image img₀
 pub record Rest (B N l : ℕ) (health : List ℕ) (t : Table) (w₀ : Lookahead) (head s : ℕ) (img₀ : List ℕ) (w : Lookahead) (img : List ℕ) : Type 0 where
@@ -58,8 +57,8 @@ module _ {B N l : ℕ} {health : List ℕ} {t : Table} {w₀ : Lookahead} {s : �
       record { long = refl; valid = x.ready.window; tries = suc w₀.ckpoint; left = omega arith; same = refl }
 
   -- the window holds a block: the allocation answers it
-  pub held : {r : Windowed (Option ℕ)} → r ≡ take_of N w₀ → {k : ℕ} → r.answer ≡ Some k
-      → record { answer = Ok k; window = r.window } ≡ alloc_of (scope N l) (seen_in (card_with B N img₀) t) w₀
+  pub held : {r : Taken} → r ≡ take_of N w₀ → {k : ℕ} → r.answer ≡ got.Block k
+      → record { answer = answer.Block k; window = r.window } ≡ alloc_of (scope N l) (seen_in (card_with B N img₀) t) w₀
   held p e = answers_block N l (seen_in (card_with B N img₀) t) w₀ (allocating N l (seen_in (card_with B N img₀) t) w₀ x.ready.window) p e
 
   module _ {head : ℕ} {w : Lookahead} {img : List ℕ} (r : Rest B N l health t w₀ head s img₀ w img) where
@@ -81,37 +80,43 @@ module _ {B N l : ℕ} {health : List ℕ} {t : Table} {w₀ : Lookahead} {s : �
 
     -- the allocation answered
     module _ {a : Allocated} (p : a ≡ alloc_of (scope N l) (seen_in (card_with B N img) t) w) where
-      pub ends_full : a.answer ≡ Err refusal.NoSpace
-          → GrewGives (extend_in B N l health t w₀ head s img₀) (record { answer = Full; window = a.window }) img
+      pub ends_full : a.answer ≡ answer.NoSpace
+          → GrewGives (extend_in B N l health t w₀ head s img₀) (record { answer = Err refusal.NoSpace; window = a.window }) img
       ends_full e =
-          grew Full img a.window
+          grew (Err refusal.NoSpace) img a.window
           (begun ∙ grow_none (window_alloc B N l t) (r.tries - 1) w a.window health B N head s img (took_none B N l t w img p e))
 
-      pub ends_damaged : {x : Refusal} → a.answer ≡ Err x → (x ≡ refusal.NoSpace → ⊥)
-          → GrewGives (extend_in B N l health t w₀ head s img₀) (record { answer = Damaged; window = a.window }) img
-      ends_damaged e n =
-          grew Damaged img a.window
-          (begun ∙ grow_bad (window_alloc B N l t) (r.tries - 1) w a.window health B N head s img (took_bad B N l t w img p e n))
+      pub ends_damaged : a.answer ≡ answer.Damaged
+          → GrewGives (extend_in B N l health t w₀ head s img₀) (record { answer = Err refusal.Damaged; window = a.window }) img
+      ends_damaged e =
+          grew (Err refusal.Damaged) img a.window
+          (begun ∙ grow_bad (window_alloc B N l t) (r.tries - 1) w a.window health B N head s img (took_bad B N l t w img p e))
+
+      pub ends_refused : a.answer ≡ answer.Refused
+          → GrewGives (extend_in B N l health t w₀ head s img₀) (record { answer = Err refusal.Damaged; window = a.window }) img
+      ends_refused e =
+          grew (Err refusal.Damaged) img a.window
+          (begun ∙ grow_bad (window_alloc B N l t) (r.tries - 1) w a.window health B N head s img (took_refused B N l t w img p e))
 
       pub outcome : Outcome N l w.ckpoint a
       outcome = rw p (allocated N l (seen_in (card_with B N img) t) w r.valid)
 
       -- with a block
-      module _ {k : ℕ} (e : a.answer ≡ Ok k) where
+      module _ {k : ℕ} (e : a.answer ≡ answer.Block k) where
         pub falls : a.window.ckpoint < w.ckpoint
         falls = outcome.falls k e
 
         pub block_linking : Linking B N k img health
         block_linking = record { card = rest_ready.card; known = x.known; block = outcome.below k e }
 
-        module _ {q : Linked} {img' : List ℕ} (g : LinkGives (try_of health B N k head s img) q img') where
-          pub ends_done : (f : Growth) → q ≡ Done f
+        module _ {q : Tried} {img' : List ℕ} (g : LinkGives (try_of health B N k head s img) q img') where
+          pub ends_done : (f : Growth) → q ≡ tried_of f
               → GrewGives (extend_in B N l health t w₀ head s img₀) (record { answer = f; window = a.window }) img'
           ends_done f d =
               grew f img' a.window
               (begun ∙ grow_done (window_alloc B N l t) (r.tries - 1) w a.window health B N head s img k (took_block B N l t w img p e) g f d)
 
-          pub moves_on : q ≡ Spoiled → length img' ≡ length img → Rest B N l health t w₀ head s img₀ a.window img'
+          pub moves_on : q ≡ Err failed.Spoiled → length img' ≡ length img → Rest B N l health t w₀ head s img₀ a.window img'
           moves_on d n =
               record {
                 long = n ∙ r.long;

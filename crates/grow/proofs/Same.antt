@@ -8,24 +8,25 @@ use native.Mathlib.Omega.{arith}
 use borrow.Author.Tests.{ltb-true, ltb-false, lt-ltb, le-ltb}
 use lib.Dec.{ltb}
 use lib.ListN.{length}
-use Rattle.layout.specs.declared.Refusal.TheVariants as refusal
+use Rattle.std.specs.Prelude.{Err}
 use Rattle.layout.specs.Layout.{offset_at}
+use Rattle.layout.specs.declared.Refusal.TheVariants as refusal
 use Rattle.card.specs.inner.Cards.{CardFacts, card_with}
 use Rattle.health.specs.Health.{refuses_erase, refuses_program}
 use Rattle.device.specs.Device.{stored, wiped}
 use Rattle.device.specs.inner.Bounds.{spot}
 use Rattle.device.proofs.Frame.{wiped_length}
 use Rattle.files.specs.declared.Table.{Table}
-use Rattle.std.specs.Prelude.{Ok, Err}
 use Rattle.window.specs.declared.Lookahead.{Lookahead}
-use Rattle.window.specs.Allocate.{alloc_of, Answer}
+use Rattle.window.specs.declared.Answer.{Answer}
+use Rattle.window.specs.declared.Answer.TheVariants as answer
+use Rattle.window.specs.Allocate.{alloc_of}
 use Rattle.window.specs.inner.Facts.{ValidWindow, scope}
 use Rattle.alloc.specs.Visits.{seen_in}
 use Rattle.trials.specs.Trial.{Trial, Ending, Whole, Fault, ends, whole, taken_by}
 use Rattle.trials.specs.Loop.{Took, Block, None, Bad, Flash, WriteOut, write_by, Candidate}
 use Rattle.trials.proofs.Laws.{at, taken_all, taken_none, taken_empty, done_law, none_law, bad_law, passed_law, whole_law, refused_law, fault_law, try_at}
 use Rattle.trials.proofs.Falls.{Falls}
-use Rattle.grow.specs.declared.Growth.TheVariants.{Refused as refused}
 use Rattle.grow.specs.Setting.{tested_of}
 use Rattle.grow.specs.Growth.{growth}
 use Rattle.grow.specs.Extend.{took_of, GrowOut, grow_out, growing, grew_by, extend_of}
@@ -41,10 +42,11 @@ use Rattle.grow.proofs.Growths.{link_nested, growth_ends, growth_some, growth_lo
 
 -- ---- the window comes to an end
 
-block_of : {k : ℕ} {w : Lookahead} (a : Answer) (v : Lookahead) → took_of a v ≡ Block k w → (a ≡ Ok k) × (v ≡ w)
-block_of (Ok k) v e = (cc, cc)
-block_of (Err refusal.NoSpace) v e = absurd (let z : ◌≡◌ {A = ℕ} 0 1 = cc in omega arith)
-block_of (Err r) v e = absurd (let z : ◌≡◌ {A = ℕ} 0 1 = cc in omega arith)
+block_of : {k : ℕ} {w : Lookahead} (a : Answer) (v : Lookahead) → took_of a v ≡ Block k w → (a ≡ answer.Block k) × (v ≡ w)
+block_of (answer.Block k) v e = (cc, cc)
+block_of answer.NoSpace v e = absurd (let z : ◌≡◌ {A = ℕ} 0 1 = cc in omega arith)
+block_of answer.Damaged v e = absurd (let z : ◌≡◌ {A = ℕ} 0 1 = cc in omega arith)
+block_of answer.Refused v e = absurd (let z : ◌≡◌ {A = ℕ} 0 1 = cc in omega arith)
 
 pub window_falls : (B N l : ℕ) (t : Table) → Falls (window_alloc B N l t) (λ (w : Lookahead). ValidWindow w N l) (λ (w : Lookahead). w.ckpoint)
 unfolding window_alloc
@@ -172,6 +174,6 @@ module _ (B N l : ℕ) (health : List ℕ) (t : Table) (w : Lookahead) (head s :
       (sym (grow_same c (window_falls B N l t) head s (omega (arith, x.fits)) (suc w.ckpoint) (suc w.ckpoint) img w x.ready.card x.ready.window
       (omega arith) (omega arith)))
 
-  pub extend_refused : extend_tested B N l (length img) health t w s ≡ false → whole_extend ≡ grow_out refused img w
+  pub extend_refused : extend_tested B N l (length img) health t w s ≡ false → whole_extend ≡ grow_out (Err refusal.Invalid) img w
   unfolding extend_of extend_tested tested_of
   extend_refused e = rw (extend_of, e)

@@ -2,11 +2,11 @@
 ghost use Rattle.grow.specs.inner.Extend.{extend_in, Extending};
 ghost use Rattle.grow.specs.inner.Gives.{GrewGives};
 
-use crate::block::{Linked, try_block};
-use crate::{Grew, Growth};
+use crate::block::try_block;
+use crate::{Failed, Grew};
 use files::Table;
 use layout::Refusal;
-use window::Lookahead;
+use window::{Answer, Got, Lookahead};
 
 // A growth with the files at hand: blocks are allocated until one takes the erase and the first program.
 pub(crate) fn extend_scan(
@@ -30,28 +30,37 @@ pub(crate) fn extend_scan(
         let took = alloc::alloc_in(b, n, l, &image[..], t, window);
         window = took.window;
         match took.answer {
-            Ok(k) => {
-                let linked = try_block(image, health, b, n, k, head, size);
-                match linked {
-                    Linked::Done(growth) => {
-                        return Grew {
-                            answer: growth,
-                            window: window,
-                        };
-                    }
-                    Linked::Spoiled => {}
+            Answer::Block(k) => match try_block(image, health, b, n, k, head, size) {
+                Ok(grown) => {
+                    return Grew {
+                        answer: Ok(grown),
+                        window,
+                    };
                 }
-            }
-            Err(Refusal::NoSpace) => {
+                Err(Failed::Spoiled) => {}
+                Err(Failed::Refused(refusal)) => {
+                    return Grew {
+                        answer: Err(refusal),
+                        window,
+                    };
+                }
+            },
+            Answer::NoSpace => {
                 return Grew {
-                    answer: Growth::Full,
-                    window: window,
+                    answer: Err(Refusal::NoSpace),
+                    window,
                 };
             }
-            Err(_) => {
+            Answer::Damaged => {
                 return Grew {
-                    answer: Growth::Damaged,
-                    window: window,
+                    answer: Err(Refusal::Damaged),
+                    window,
+                };
+            }
+            Answer::Refused => {
+                return Grew {
+                    answer: Err(Refusal::Damaged),
+                    window,
                 };
             }
         }
@@ -98,22 +107,22 @@ pub fn extend_in(
     let taken = window::take(w, n);
     let window = taken.window;
     match taken.answer {
-        Some(k) => {
+        Got::Block(k) => {
             if health[k as usize] != 0 {
                 return extend_rest(b, n, l, image, health, t, w, head, size);
             }
-            let linked = try_block(image, health, b, n, k, head, size);
-            match linked {
-                Linked::Done(growth) => Grew {
-                    answer: growth,
-                    window: window,
+            match try_block(image, health, b, n, k, head, size) {
+                Ok(grown) => Grew {
+                    answer: Ok(grown),
+                    window,
                 },
-                Linked::Spoiled => Grew {
-                    answer: Growth::Refused,
-                    window: window,
+                Err(Failed::Refused(refusal)) => Grew {
+                    answer: Err(refusal),
+                    window,
                 },
+                Err(Failed::Spoiled) => unreachable!(),
             }
         }
-        None => extend_rest(b, n, l, image, health, t, w, head, size),
+        Got::Empty => extend_rest(b, n, l, image, health, t, w, head, size),
     }
 }

@@ -4,9 +4,9 @@
 ghost use Rattle.std.specs.Prelude.{◌≡◌};
 ghost use Rattle.told_windows.specs.Windows.{replied_told, allocated_told, grew_told};
 
-use grow::{Grew, Growth};
-use layout::Refusal;
-use window::{Lookahead, Windowed};
+use grow::{Grew, Grown};
+use window::setup::{Replied, Reply};
+use window::{Allocated, Answer, Lookahead};
 
 // A window handed back; on a refusal as it came, and that of zeros where none came.
 #[repr(C)]
@@ -16,15 +16,19 @@ pub struct TidWindow {
     pub window: Lookahead,
 }
 
-pub fn replied_told(reply: Windowed<Result<(), Refusal>>) -> TidWindow
-    ensures { result ≡ replied_told reply }
+pub fn replied_told(w: Replied) -> TidWindow
+    ensures { result ≡ replied_told w }
 {
-    let window = reply.window;
-    match reply.answer {
-        Ok(()) => TidWindow { code: 0, window },
-        Err(refusal) => TidWindow {
-            code: refusal.code(),
-            window,
+    let answer = w.answer;
+    let window = w.window;
+    match answer {
+        Reply::Done => TidWindow {
+            code: 0,
+            window: window,
+        },
+        Reply::Refused => TidWindow {
+            code: -22,
+            window: window,
         },
     }
 }
@@ -38,20 +42,31 @@ pub struct TidAlloc {
     pub window: Lookahead,
 }
 
-pub fn allocated_told(allocated: Windowed<Result<u32, Refusal>>) -> TidAlloc
-    ensures { result ≡ allocated_told allocated }
+pub fn allocated_told(a: Allocated) -> TidAlloc
+    ensures { result ≡ allocated_told a }
 {
-    let window = allocated.window;
-    match allocated.answer {
-        Ok(block) => TidAlloc {
+    let answer = a.answer;
+    let window = a.window;
+    match answer {
+        Answer::Block(block) => TidAlloc {
             code: 0,
-            block,
-            window,
+            block: block,
+            window: window,
         },
-        Err(refusal) => TidAlloc {
-            code: refusal.code(),
+        Answer::NoSpace => TidAlloc {
+            code: -28,
             block: 0,
-            window,
+            window: window,
+        },
+        Answer::Damaged => TidAlloc {
+            code: -84,
+            block: 0,
+            window: window,
+        },
+        Answer::Refused => TidAlloc {
+            code: -22,
+            block: 0,
+            window: window,
         },
     }
 }
@@ -69,32 +84,19 @@ pub struct TidExtend {
 pub fn grew_told(a: Grew) -> TidExtend
     ensures { result ≡ grew_told a.answer a.window }
 {
-    let answer = a.answer;
-    let window = a.window;
+    let Grew { answer, window } = a;
     match answer {
-        Growth::Grown { block, offset } => TidExtend {
+        Ok(Grown { block, offset }) => TidExtend {
             code: 0,
-            block: block,
-            offset: offset,
-            window: window,
+            block,
+            offset,
+            window,
         },
-        Growth::Full => TidExtend {
-            code: -28,
+        Err(refusal) => TidExtend {
+            code: refusal.code(),
             block: 0,
             offset: 0,
-            window: window,
-        },
-        Growth::Damaged => TidExtend {
-            code: -84,
-            block: 0,
-            offset: 0,
-            window: window,
-        },
-        Growth::Refused => TidExtend {
-            code: -22,
-            block: 0,
-            offset: 0,
-            window: window,
+            window,
         },
     }
 }

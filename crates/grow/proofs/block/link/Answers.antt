@@ -44,15 +44,15 @@ program_copy-requires c =
     let r = c.offset_at-used.ensures in
     (room_of _ _ _ c.requires.0 refl (omega arith), source_of _ _ _ c.requires.0 (omega arith) (omega arith), blank_part _ _ (omega arith) (omega arith) c.requires.2)
 
-pub returns-in-Ok : goal.returns-in-Ok
-returns-in-Ok c =
+pub returns-in-Stored : goal.returns-in-Stored
+returns-in-Stored c =
     let a = c.args in
     gives _ _
     (attempt_copied a.health.now a.b a.n a.k a.head a.size a.image.now (a.size - 1) (omega arith) _ (omega arith) c.program_copy.ensures (omega (arith, c.offset_at-used.ensures))
-    c.if-used-b.false c.in-Ok.is)
+    c.if-used-b.false c.in-Stored.is)
 
-pub returns-in-Err : goal.returns-in-Err
-returns-in-Err c =
+pub returns-in-Refused : goal.returns-in-Refused
+returns-in-Refused c =
     let a = c.args in
     gives _ _
-    (attempt_spoiled a.health.now a.b a.n a.k a.head a.size a.image.now (a.size - 1) (omega arith) (c.offset_at-used.result + 1) (omega arith) c.program_copy.ensures c.in-Err.is)
+    (attempt_spoiled a.health.now a.b a.n a.k a.head a.size a.image.now (a.size - 1) (omega arith) (c.offset_at-used.result + 1) (omega arith) c.program_copy.ensures c.in-Refused.is)

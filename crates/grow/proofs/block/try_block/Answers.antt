@@ -11,14 +11,14 @@ erase-requires c =
 
 pub link-requires : goal.link-requires
 link-requires c =
-    (search rules, search rules, blank_erased _ _ c.erase.ensures c.in-Ok.is)
+    (search rules, search rules, blank_erased _ _ c.erase.ensures c.in-Wiped.is)
 
-pub returns-in-Ok : goal.returns-in-Ok
-returns-in-Ok c =
+pub returns-in-Wiped : goal.returns-in-Wiped
+returns-in-Wiped c =
     let a = c.args in
-    rw (try_wiped a.health.now a.b a.n a.k a.head a.size a.image.now c.erase.ensures c.in-Ok.is) c.link.ensures
+    rw (try_wiped a.health.now a.b a.n a.k a.head a.size a.image.now c.erase.ensures c.in-Wiped.is) c.link.ensures
 
-pub returns-in-Err : goal.returns-in-Err
-returns-in-Err c =
+pub returns-in-Kept : goal.returns-in-Kept
+returns-in-Kept c =
     let a = c.args in
-    gives _ _ (try_kept a.health.now a.b a.n a.k a.head a.size a.image.now c.erase.ensures c.in-Err.is)
+    gives _ _ (try_kept a.health.now a.b a.n a.k a.head a.size a.image.now c.erase.ensures c.in-Kept.is)
