@@ -97,8 +97,6 @@ pub fn fill_block(
     let past = pos + data.len() as u32;
     let new = e.size.max(past);
     let m = (new - s).min(b - off);
-    match front(image, health, b, k, off, s, m, pos, data) {
-        Ok(()) => tail(image, health, b, n, e, k, off, s, m, past),
-        Err(Spoiled) => Err(Failed::Spoiled),
-    }
+    front(image, health, b, k, off, s, m, pos, data)?;
+    tail(image, health, b, n, e, k, off, s, m, past)
 }

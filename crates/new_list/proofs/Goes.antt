@@ -13,11 +13,11 @@ use Rattle.layout.specs.inner.Served.{block_list}
 use Rattle.files.specs.declared.Entry.{Entry}
 use Rattle.files.specs.declared.Table.{Table}
 use Rattle.window.specs.declared.Lookahead.{Lookahead}
+use Rattle.window.specs.declared.Windowed.{Windowed}
 use Rattle.window.specs.inner.Facts.{ValidWindow}
 use Rattle.trials.specs.Loop.{Writing, Written, Corrupt, WriteOut, write_out}
 use Rattle.grow.specs.declared.Failed.TheVariants as failed
-use Rattle.grow.specs.declared.Grew.{Grew}
-use Rattle.grow.specs.Extend.{grown_at}
+use Rattle.grow.specs.Extend.{Growth, grown_at}
 use Rattle.grow.specs.inner.Extend.{extend_in, Extending}
 use Rattle.grow.specs.inner.Gives.{GrewGives}
 use Rattle.grow.proofs.Growing.{Grows, extend_grows}
@@ -78,7 +78,7 @@ module _ {B N l : ℕ} {health : List ℕ} {t : Table} {e : Entry} {pos : ℕ} {
           }
 
       -- the growth answered
-      module _ {g : Grew} {img₁ : List ℕ} (p : GrewGives (extend_in B N l health t w h s img) g img₁) where
+      module _ {g : Windowed Growth} {img₁ : List ℕ} (p : GrewGives (extend_in B N l health t w h s img) g img₁) where
         grows : Grows B N l w.ckpoint (extend_in B N l health t w h s img)
         grows = extend_grows h rest_extends
 
