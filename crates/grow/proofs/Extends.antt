@@ -1,24 +1,22 @@
 -- The loop of a growth: what is left to do equals the whole, and the checkpoint count bounds the tries.
 use mathlib.Core.Path.{◌≡◌, refl, sym, ap, ◌∙◌}
+use mathlib.Core.Logic.{inl, inr}
 use mathlib.Core.List.{List}
 use Prim.Native.Nat.{ℕ, suc, ◌-◌, ◌<◌}
 use native.Mathlib.Omega.{arith}
 use lib.ListN.{length}
-use Rattle.std.specs.Prelude.{Err}
 use Rattle.layout.specs.declared.Refusal.TheVariants as refusal
 use Rattle.card.specs.inner.Cards.{card_with}
 use Rattle.files.specs.declared.Table.{Table}
+use Rattle.layout.specs.declared.Refusal.{Refusal}
+use Rattle.std.specs.Prelude.{Ok, Err, Option, Some}
+use Rattle.window.specs.declared.Windowed.{Windowed}
 use Rattle.window.specs.declared.Lookahead.{Lookahead}
-use Rattle.window.specs.declared.Got.TheVariants as got
-use Rattle.window.specs.declared.Taken.{Taken}
-use Rattle.window.specs.declared.Answer.TheVariants as answer
-use Rattle.window.specs.declared.Allocated.{Allocated}
-use Rattle.window.specs.Allocate.{take_of, alloc_of}
+use Rattle.window.specs.Allocate.{take_of, alloc_of, Allocated}
 use Rattle.window.specs.inner.Facts.{ValidWindow, scope}
 use Rattle.alloc.specs.Visits.{seen_in}
 use Rattle.alloc.specs.inner.Facts.{Ready}
 use Rattle.alloc.proofs.Turning.{allocating, answers_block}
-use Rattle.grow.specs.declared.Grew.{Grew}
 use Rattle.grow.specs.declared.Failed.TheVariants as failed
 use Rattle.grow.specs.Extend.{Growth, GrowOut, grow_out}
 use Rattle.grow.specs.inner.Attempt.{Tried, tried_of, try_of, LinkGives, Linking}
@@ -27,7 +25,7 @@ use Rattle.grow.specs.inner.Extend.{window_alloc, extend_in, Extending}
 use Rattle.grow.specs.inner.Gives.{GrewGives}
 use Rattle.grow.proofs.Turns.{grow_none, grow_bad}
 use Rattle.grow.proofs.Tries.{grow_done, grow_moves}
-use Rattle.grow.proofs.Takes.{Outcome, allocated, took_block, took_none, took_bad, took_refused}
+use Rattle.grow.proofs.Takes.{Outcome, allocated, took_block, took_none, took_bad}
 
 -- window w and image img, in the middle of a growth from window w₀ and image img₀
 pub record Rest (B N l : ℕ) (health : List ℕ) (t : Table) (w₀ : Lookahead) (head s : ℕ) (img₀ : List ℕ) (w : Lookahead) (img : List ℕ) : Type 0 where
@@ -42,12 +40,12 @@ pub grew : {o : GrowOut Lookahead} (a : Growth) (after : List ℕ) (v : Lookahea
 grew a after v e = rw e (record { answer = refl; window = refl; image = refl })
 
 -- two outcomes that a definition allows are one
-told : {o : GrowOut Lookahead} {r : Grew} {after : List ℕ} → GrewGives o r after → r ≡ record { answer = o.answer; window = o.rest }
+told : {o : GrowOut Lookahead} {r : Windowed Growth} {after : List ℕ} → GrewGives o r after → r ≡ record { answer = o.answer; window = o.rest }
 told {o} {r} g =
     ap (λ (x : Growth). record { answer = x; window = r.window }) g.answer
     ∙ ap (λ (x : Lookahead). record { answer = o.answer; window = x }) g.window
 
-pub one_growth : {o : GrowOut Lookahead} {r r' : Grew} {after after' : List ℕ} → GrewGives o r after → GrewGives o r' after' → (r ≡ r') × (after ≡ after')
+pub one_growth : {o : GrowOut Lookahead} {r r' : Windowed Growth} {after after' : List ℕ} → GrewGives o r after → GrewGives o r' after' → (r ≡ r') × (after ≡ after')
 one_growth g h = (told g ∙ sym (told h), g.image ∙ sym h.image)
 
 module _ {B N l : ℕ} {health : List ℕ} {t : Table} {w₀ : Lookahead} {s : ℕ} {img₀ : List ℕ} (x : Extending B N l img₀ health t w₀ s) where
@@ -57,8 +55,8 @@ module _ {B N l : ℕ} {health : List ℕ} {t : Table} {w₀ : Lookahead} {s : �
       record { long = refl; valid = x.ready.window; tries = suc w₀.ckpoint; left = omega arith; same = refl }
 
   -- the window holds a block: the allocation answers it
-  pub held : {r : Taken} → r ≡ take_of N w₀ → {k : ℕ} → r.answer ≡ got.Block k
-      → record { answer = answer.Block k; window = r.window } ≡ alloc_of (scope N l) (seen_in (card_with B N img₀) t) w₀
+  pub held : {r : Windowed (Option ℕ)} → r ≡ take_of N w₀ → {k : ℕ} → r.answer ≡ Some k
+      → record { answer = Ok k; window = r.window } ≡ alloc_of (scope N l) (seen_in (card_with B N img₀) t) w₀
   held p e = answers_block N l (seen_in (card_with B N img₀) t) w₀ (allocating N l (seen_in (card_with B N img₀) t) w₀ x.ready.window) p e
 
   module _ {head : ℕ} {w : Lookahead} {img : List ℕ} (r : Rest B N l health t w₀ head s img₀ w img) where
@@ -80,29 +78,21 @@ module _ {B N l : ℕ} {health : List ℕ} {t : Table} {w₀ : Lookahead} {s : �
 
     -- the allocation answered
     module _ {a : Allocated} (p : a ≡ alloc_of (scope N l) (seen_in (card_with B N img) t) w) where
-      pub ends_full : a.answer ≡ answer.NoSpace
-          → GrewGives (extend_in B N l health t w₀ head s img₀) (record { answer = Err refusal.NoSpace; window = a.window }) img
-      ends_full e =
-          grew (Err refusal.NoSpace) img a.window
-          (begun ∙ grow_none (window_alloc B N l t) (r.tries - 1) w a.window health B N head s img (took_none B N l t w img p e))
-
-      pub ends_damaged : a.answer ≡ answer.Damaged
-          → GrewGives (extend_in B N l health t w₀ head s img₀) (record { answer = Err refusal.Damaged; window = a.window }) img
-      ends_damaged e =
-          grew (Err refusal.Damaged) img a.window
-          (begun ∙ grow_bad (window_alloc B N l t) (r.tries - 1) w a.window health B N head s img (took_bad B N l t w img p e))
-
-      pub ends_refused : a.answer ≡ answer.Refused
-          → GrewGives (extend_in B N l health t w₀ head s img₀) (record { answer = Err refusal.Damaged; window = a.window }) img
-      ends_refused e =
-          grew (Err refusal.Damaged) img a.window
-          (begun ∙ grow_bad (window_alloc B N l t) (r.tries - 1) w a.window health B N head s img (took_refused B N l t w img p e))
-
       pub outcome : Outcome N l w.ckpoint a
       outcome = rw p (allocated N l (seen_in (card_with B N img) t) w r.valid)
 
+      pub ends_refused : {x : Refusal} → a.answer ≡ Err x
+          → GrewGives (extend_in B N l health t w₀ head s img₀) (record { answer = Err x; window = a.window }) img
+      ends_refused {x} e =
+          elim (outcome.refused x e) [
+            | inl n ↦ rw n (grew (Err refusal.NoSpace) img a.window
+                (begun ∙ grow_none (window_alloc B N l t) (r.tries - 1) w a.window health B N head s img (took_none B N l t w img p (e ∙ ap Err n))))
+            | inr d ↦ rw d (grew (Err refusal.Damaged) img a.window
+                (begun ∙ grow_bad (window_alloc B N l t) (r.tries - 1) w a.window health B N head s img (took_bad B N l t w img p (e ∙ ap Err d))))
+          ]
+
       -- with a block
-      module _ {k : ℕ} (e : a.answer ≡ answer.Block k) where
+      module _ {k : ℕ} (e : a.answer ≡ Ok k) where
         pub falls : a.window.ckpoint < w.ckpoint
         falls = outcome.falls k e
 

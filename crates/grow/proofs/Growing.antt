@@ -1,6 +1,6 @@
 -- What a growth tells, on any card and list, damaged ones too: the window stays valid; a block that it answers is below N, with room
 -- in it that is erased, and the checkpoint count fell. Assumes nothing.
-use mathlib.Core.Path.{◌≡◌, refl, ap}
+use mathlib.Core.Path.{◌≡◌, refl, ap, ◌∙◌}
 use mathlib.Core.Logic.{◌⊎◌, inl, inr}
 use mathlib.Core.Bool.{Bool, true, false}
 use mathlib.Core.List.{List}
@@ -10,7 +10,6 @@ use native.Mathlib.Omega.{arith}
 use borrow.Author.Tests.{ltb-true, ltb-false, eqb-true, eqb-false}
 use lib.Dec.{ltb, eqb}
 use lib.ListN.{length, drop, length-take}
-use Rattle.std.specs.Prelude.{Err}
 use Rattle.span.specs.Words.{bytes32}
 use Rattle.span.proofs.Words.{length_bytes32}
 use Rattle.layout.specs.Layout.{pointers, index_at, offset_at}
@@ -26,11 +25,9 @@ use Rattle.device.specs.Device.{stored, wiped}
 use Rattle.device.specs.inner.Bounds.{spot, Blank}
 use Rattle.device.proofs.Blanks.{blank_wiped, blank_part, blank_stored}
 use Rattle.files.specs.declared.Table.{Table}
+use Rattle.std.specs.Prelude.{Ok, Err}
 use Rattle.window.specs.declared.Lookahead.{Lookahead}
-use Rattle.window.specs.declared.Answer.{Answer}
-use Rattle.window.specs.declared.Answer.TheVariants as answer
-use Rattle.window.specs.declared.Allocated.{Allocated}
-use Rattle.window.specs.Allocate.{alloc_of}
+use Rattle.window.specs.Allocate.{alloc_of, Answer, Allocated}
 use Rattle.window.specs.inner.Facts.{ValidWindow, scope}
 use Rattle.alloc.specs.Visits.{seen_in}
 use Rattle.trials.specs.Loop.{Block}
@@ -40,7 +37,7 @@ use Rattle.grow.specs.inner.Grow.{part, pointers_of, link_of, spoils, grow_of}
 use Rattle.grow.specs.inner.Extend.{window_alloc, extend_in, Extending}
 use Rattle.grow.proofs.Links.{link_empty, link_damaged, link_copied, link_pointers, link_rest, used_fits, next_room}
 use Rattle.grow.proofs.Turns.{grow_none, grow_bad, grow_kept, grow_spoiled, grow_linked}
-use Rattle.grow.proofs.Takes.{Outcome, allocated, took_block, took_none, took_bad, took_refused}
+use Rattle.grow.proofs.Takes.{Outcome, allocated, took_block, took_none, took_bad}
 
 -- the ways of an answer that a link gives for block k, with its image: made, with erased room in the block, or -84
 pub data Ends (B k : ℕ) : Growth → List ℕ → Type 0 where
@@ -159,14 +156,17 @@ module _ (B N l : ℕ) (health : List ℕ) (t : Table) (head s : ℕ) (z : Block
 
     answered : (a : Allocated) → a ≡ alloc_of (scope N l) (seen_in (card_with B N img) t) w → Outcome N l w.ckpoint a → (q : Answer) → a.answer ≡ q
         → Grows B N l w.ckpoint (grow_of (window_alloc B N l t) (suc m) w health B N head s img)
-    answered a p o (answer.Block k) e =
+    answered a p o (Ok k) e =
         tried k a.window (took_block B N l t w img p e) o.valid (o.below k e) (o.falls k e) (refuses_erase health k) refl (spoils health N k head s) refl
-    answered a p o answer.NoSpace e =
-        rw (grow_none (window_alloc B N l t) m w a.window health B N head s img (took_none B N l t w img p e)) (nothing o.valid refusal.NoSpace (inl refl) refl)
-    answered a p o answer.Damaged e =
-        rw (grow_bad (window_alloc B N l t) m w a.window health B N head s img (took_bad B N l t w img p e)) (nothing o.valid refusal.Damaged (inr refl) refl)
-    answered a p o answer.Refused e =
-        rw (grow_bad (window_alloc B N l t) m w a.window health B N head s img (took_refused B N l t w img p e)) (nothing o.valid refusal.Damaged (inr refl) refl)
+    answered a p o (Err r) e =
+        elim (o.refused r e) [
+          | inl n ↦
+              rw (grow_none (window_alloc B N l t) m w a.window health B N head s img (took_none B N l t w img p (e ∙ ap Err n)))
+              (nothing o.valid refusal.NoSpace (inl refl) refl)
+          | inr d ↦
+              rw (grow_bad (window_alloc B N l t) m w a.window health B N head s img (took_bad B N l t w img p (e ∙ ap Err d)))
+              (nothing o.valid refusal.Damaged (inr refl) refl)
+        ]
 
   tries : (m : ℕ) → Tries m
   unfolding grow_of

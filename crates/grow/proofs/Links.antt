@@ -17,12 +17,11 @@ use Rattle.layout.proofs.Places.{Same, Next, next_place, offset_inside}
 use Rattle.layout.proofs.Laws.{pointers_pos}
 use Rattle.layout.proofs.Served.{served, index_in, index_below, pointers_fit}
 use Rattle.layout.specs.declared.Refusal.TheVariants as refusal
-use Rattle.device.specs.declared.Programmed.{Programmed}
-use Rattle.device.specs.declared.Programmed.TheVariants.{Stored, Refused}
+use Rattle.health.specs.Health.{refuses_program}
 use Rattle.device.specs.Device.{stored}
 use Rattle.device.specs.inner.Bounds.{spot}
-use Rattle.device.specs.inner.Steps.{program_of, ProgramGives}
-use Rattle.device.proofs.Steps.{told_stored, told_refused}
+use Rattle.device.specs.inner.Steps.{Answer, done, refused, program_of, StepGives}
+use Rattle.device.proofs.Steps.{told_done, told_refused}
 use Rattle.grow.specs.declared.Failed.TheVariants as failed
 use Rattle.grow.specs.Extend.{grown_at, grow_out}
 use Rattle.grow.specs.inner.Attempt.{tried_of, attempt_of, put_pointers}
@@ -116,20 +115,20 @@ module _ (health : List ℕ) (B N k head s : ℕ) (img : List ℕ) where
     attempt_damaged h = rw (attempt_of, spoils_damaged health N k head s h, e, link_damaged B N k head img (tt {0}) p h)
 
     -- a copy was asked: r is the device's answer, img' the image that it left
-    module _ {r : Programmed} {img' : List ℕ} (used : ℕ) (h : head < N)
-        (g : ProgramGives (program_of health B k 0 (take used (drop (head * B + 0) img)) img) r img') where
-      pub attempt_spoiled : r ≡ Refused → attempt_of health B N k head s img ≡ record { answer = Err failed.Spoiled; image = img' }
+    module _ {r : Answer} {img' : List ℕ} (used : ℕ) (h : head < N)
+        (g : StepGives (program_of health B k 0 (take used (drop (head * B + 0) img)) img) r img') where
+      pub attempt_spoiled : r ≡ refused → attempt_of health B N k head s img ≡ record { answer = Err failed.Spoiled; image = img' }
       unfolding attempt_of
       attempt_spoiled q =
-          let t = told_refused health B k 0 (take used (drop (head * B + 0) img)) img (sym g.answer ∙ q) in
+          let t = told_refused (refuses_program health k) img (stored B img (spot k 0) (take used (drop (head * B + 0) img))) (sym g.answer ∙ q) in
           let l : 0 < s = omega arith in
           rw (attempt_of, spoils_refused health N k head s t.0 l h, g.image, t.1)
 
-      pub attempt_copied : used ≡ suc (offset_at B p) → (used ≡ B → ⊥) → r ≡ Stored
+      pub attempt_copied : used ≡ suc (offset_at B p) → (used ≡ B → ⊥) → r ≡ done
           → attempt_of health B N k head s img ≡ record { answer = tried_of (grown_at k used); image = img' }
       unfolding attempt_of part
       attempt_copied u n q =
-          let t = told_stored health B k 0 (take used (drop (head * B + 0) img)) img (sym g.answer ∙ q) in
+          let t = told_done (refuses_program health k) img (stored B img (spot k 0) (take used (drop (head * B + 0) img))) (sym g.answer ∙ q) in
           rw (
             attempt_of,
             spoils_stored health N k head s t.0,

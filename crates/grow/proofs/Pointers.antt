@@ -12,12 +12,11 @@ use Rattle.layout.specs.declared.Refusal.TheVariants as refusal
 use Rattle.span.specs.Words.{bytes32}
 use Rattle.span.proofs.Words.{length_bytes32}
 use Rattle.card.specs.Card.{pointer}
-use Rattle.device.specs.declared.Programmed.{Programmed}
-use Rattle.device.specs.declared.Programmed.TheVariants.{Stored, Refused}
+use Rattle.health.specs.Health.{refuses_program}
 use Rattle.device.specs.Device.{stored}
 use Rattle.device.specs.inner.Bounds.{spot, Blank}
-use Rattle.device.specs.inner.Steps.{program_of, ProgramGives}
-use Rattle.device.proofs.Steps.{told_stored, told_refused}
+use Rattle.device.specs.inner.Steps.{Answer, done, refused, program_of, StepGives}
+use Rattle.device.proofs.Steps.{told_done, told_refused}
 use Rattle.device.proofs.Blanks.{blank_part, blank_programmed}
 use Rattle.grow.specs.declared.Failed.TheVariants as failed
 use Rattle.grow.specs.Extend.{grown_at, grow_out}
@@ -69,8 +68,8 @@ pub put_start : (health : List ℕ) (B N k off count cur : ℕ) (img : List ℕ)
 put_start health B N k off count cur img = ap (λ (m : ℕ). put_pointers health B N k off m 0 cur img) (omega arith)
 
 -- the room behind a pointer that is programmed stays erased
-pub words_blank : {B k : ℕ} {img img' : List ℕ} {r : Programmed} (health : List ℕ) (count x cur : ℕ) → x < count
-    → ProgramGives (program_of health B k (4 * x) (bytes32 cur) img) r img' → Blank B k (4 * x) (4 * (count - x)) img
+pub words_blank : {B k : ℕ} {img img' : List ℕ} {r : Answer} (health : List ℕ) (count x cur : ℕ) → x < count
+    → StepGives (program_of health B k (4 * x) (bytes32 cur) img) r img' → Blank B k (4 * x) (4 * (count - x)) img
     → Blank B k (4 * (x + 1)) (4 * (count - (x + 1))) img'
 words_blank health count x cur l g b =
     blank_programmed health (4 * x) (bytes32 cur) g (omega (arith, length_bytes32 cur))
@@ -90,20 +89,20 @@ module _ (health : List ℕ) (B N k off count x cur : ℕ) (img : List ℕ) wher
       rw (put_pointers, spoils_damaged health N k cur (count - x) h, pointers_damaged (count - x) B N k off x cur img (tt {0}) _ e h)
 
   -- a program was asked: r is the device's answer, img' the image that it left
-  module _ {r : Programmed} {img' : List ℕ} (l : x < count) (h : cur < N)
-      (g : ProgramGives (program_of health B k (4 * x) (bytes32 cur) img) r img') where
-    pub put_spoiled : r ≡ Refused → put_pointers health B N k off (count - x) x cur img ≡ record { answer = Err failed.Spoiled; image = img' }
+  module _ {r : Answer} {img' : List ℕ} (l : x < count) (h : cur < N)
+      (g : StepGives (program_of health B k (4 * x) (bytes32 cur) img) r img') where
+    pub put_spoiled : r ≡ refused → put_pointers health B N k off (count - x) x cur img ≡ record { answer = Err failed.Spoiled; image = img' }
     unfolding put_pointers
     put_spoiled e =
-        let t = told_refused health B k (4 * x) (bytes32 cur) img (sym g.answer ∙ e) in
+        let t = told_refused (refuses_program health k) img (stored B img (spot k (4 * x)) (bytes32 cur)) (sym g.answer ∙ e) in
         let p : 0 < count - x = omega arith in
         rw (put_pointers, spoils_refused health N k cur (count - x) t.0 p h, g.image, t.1)
 
-    pub put_turn : (cur' : ℕ) → r ≡ Stored → cur' ≡ pointer B img' cur x
+    pub put_turn : (cur' : ℕ) → r ≡ done → cur' ≡ pointer B img' cur x
         → put_pointers health B N k off (count - x) x cur img ≡ put_pointers health B N k off (count - (x + 1)) (x + 1) cur' img'
     unfolding put_pointers
     put_turn cur' e q =
-        let t = told_stored health B k (4 * x) (bytes32 cur) img (sym g.answer ∙ e) in
+        let t = told_done (refuses_program health k) img (stored B img (spot k (4 * x)) (bytes32 cur)) (sym g.answer ∙ e) in
         let s : count - x ≡ suc (count - (x + 1)) = omega arith in
         rw (
           put_pointers,

@@ -8,7 +8,7 @@ use native.Mathlib.Omega.{arith}
 use borrow.Author.Tests.{ltb-true, ltb-false, lt-ltb, le-ltb}
 use lib.Dec.{ltb}
 use lib.ListN.{length}
-use Rattle.std.specs.Prelude.{Err}
+use Rattle.layout.specs.declared.Refusal.TheVariants as refusal
 use Rattle.layout.specs.Layout.{offset_at}
 use Rattle.layout.specs.declared.Refusal.TheVariants as refusal
 use Rattle.card.specs.inner.Cards.{CardFacts, card_with}
@@ -17,10 +17,9 @@ use Rattle.device.specs.Device.{stored, wiped}
 use Rattle.device.specs.inner.Bounds.{spot}
 use Rattle.device.proofs.Frame.{wiped_length}
 use Rattle.files.specs.declared.Table.{Table}
+use Rattle.std.specs.Prelude.{Ok, Err}
 use Rattle.window.specs.declared.Lookahead.{Lookahead}
-use Rattle.window.specs.declared.Answer.{Answer}
-use Rattle.window.specs.declared.Answer.TheVariants as answer
-use Rattle.window.specs.Allocate.{alloc_of}
+use Rattle.window.specs.Allocate.{alloc_of, Answer}
 use Rattle.window.specs.inner.Facts.{ValidWindow, scope}
 use Rattle.alloc.specs.Visits.{seen_in}
 use Rattle.trials.specs.Trial.{Trial, Ending, Whole, Fault, ends, whole, taken_by}
@@ -42,11 +41,10 @@ use Rattle.grow.proofs.Growths.{link_nested, growth_ends, growth_some, growth_lo
 
 -- ---- the window comes to an end
 
-block_of : {k : ℕ} {w : Lookahead} (a : Answer) (v : Lookahead) → took_of a v ≡ Block k w → (a ≡ answer.Block k) × (v ≡ w)
-block_of (answer.Block k) v e = (cc, cc)
-block_of answer.NoSpace v e = absurd (let z : ◌≡◌ {A = ℕ} 0 1 = cc in omega arith)
-block_of answer.Damaged v e = absurd (let z : ◌≡◌ {A = ℕ} 0 1 = cc in omega arith)
-block_of answer.Refused v e = absurd (let z : ◌≡◌ {A = ℕ} 0 1 = cc in omega arith)
+block_of : {k : ℕ} {w : Lookahead} (a : Answer) (v : Lookahead) → took_of a v ≡ Block k w → (a ≡ Ok k) × (v ≡ w)
+block_of (Ok k) v e = (cc, cc)
+block_of (Err refusal.NoSpace) v e = absurd (let z : ◌≡◌ {A = ℕ} 0 1 = cc in omega arith)
+block_of (Err r) v e = absurd (let z : ◌≡◌ {A = ℕ} 0 1 = cc in omega arith)
 
 pub window_falls : (B N l : ℕ) (t : Table) → Falls (window_alloc B N l t) (λ (w : Lookahead). ValidWindow w N l) (λ (w : Lookahead). w.ckpoint)
 unfolding window_alloc

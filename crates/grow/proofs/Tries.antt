@@ -8,11 +8,9 @@ use borrow.Author.Tests.{ne_eqb}
 use lib.ListN.{get_or}
 use Rattle.std.specs.Prelude.{Ok, Err}
 use Rattle.health.specs.Health.{refuses_erase}
-use Rattle.device.specs.declared.Erased.{Erased}
-use Rattle.device.specs.declared.Erased.TheVariants.{Wiped, Kept}
 use Rattle.device.specs.Device.{wiped}
-use Rattle.device.specs.inner.Steps.{erase_of, EraseGives}
-use Rattle.device.proofs.Steps.{told_wiped, told_kept}
+use Rattle.device.specs.inner.Steps.{Answer, done, refused, erase_of, StepGives}
+use Rattle.device.proofs.Steps.{told_done, told_refused}
 use Rattle.window.proofs.Cases.{no_both}
 use Rattle.trials.specs.Loop.{Took, Block}
 use Rattle.grow.specs.declared.Failed.TheVariants as failed
@@ -25,17 +23,17 @@ use Rattle.grow.proofs.Turns.{grow_kept, grow_spoiled, grow_linked}
 
 module _ (health : List ℕ) (B N k head s : ℕ) (img : List ℕ) where
   -- r is the device's answer to the erase, img' the image that it left
-  module _ {r : Erased} {img' : List ℕ} (g : EraseGives (erase_of health B k img) r img') where
-    pub try_kept : r ≡ Kept → try_of health B N k head s img ≡ record { answer = Err failed.Spoiled; image = img' }
+  module _ {r : Answer} {img' : List ℕ} (g : StepGives (erase_of health B k img) r img') where
+    pub try_kept : r ≡ refused → try_of health B N k head s img ≡ record { answer = Err failed.Spoiled; image = img' }
     unfolding try_of
     try_kept e =
-        let t = told_kept health B k img (sym g.answer ∙ e) in
+        let t = told_refused (refuses_erase health k) img (wiped B img k) (sym g.answer ∙ e) in
         rw (try_of, t.0, g.image, t.1)
 
-    pub try_wiped : r ≡ Wiped → try_of health B N k head s img ≡ attempt_of health B N k head s img'
+    pub try_wiped : r ≡ done → try_of health B N k head s img ≡ attempt_of health B N k head s img'
     unfolding try_of
     try_wiped e =
-        let t = told_wiped health B k img (sym g.answer ∙ e) in
+        let t = told_done (refuses_erase health k) img (wiped B img k) (sym g.answer ∙ e) in
         rw (try_of, t.0, g.image, t.1)
 
   -- the two ways of a try, with what each says of the growth

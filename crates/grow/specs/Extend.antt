@@ -1,16 +1,13 @@
 -- `ctz_extend`: one growth with the window as its allocator, for every input (01, "Lookup, visit, grow", "The window", "Refusal numbers").
 use Rattle.std.specs.Prelude.{true, false, ◌&&◌, Result, Ok, Err, List, ℕ, suc, leb}
 use Rattle.layout.specs.declared.Refusal.{Refusal}
-use Rattle.layout.specs.declared.Refusal.TheVariants.{Invalid, NoSpace, Damaged}
+use Rattle.layout.specs.declared.Refusal.TheVariants as refusal
 use Rattle.layout.specs.Numbers.{size_max}
 use Rattle.layout.specs.Layout.{BlockList, offset_at}
 use Rattle.files.specs.declared.Table.{Table}
 use Rattle.files.specs.Table.{table_ok}
 use Rattle.window.specs.declared.Lookahead.{Lookahead}
-use Rattle.window.specs.declared.Answer.{Answer}
-use Rattle.window.specs.declared.Answer.TheVariants as answer
-use Rattle.window.specs.declared.Allocated.{Allocated}
-use Rattle.window.specs.Allocate.{alloc_of}
+use Rattle.window.specs.Allocate.{alloc_of, Answer, Allocated}
 use Rattle.alloc.specs.Visits.{seen_in}
 use Rattle.trials.specs.Loop.{Took, Block, None, Bad, Flash, Plan, Writing, Written, NoRoom, Corrupt, WriteOut, write_by}
 use Rattle.grow.specs.declared.Grown.{Grown}
@@ -19,10 +16,9 @@ use Rattle.grow.specs.Growth.{growth}
 
 -- an allocation as a write asks for it; behind the tests none is refused
 abbrev pub took_of : Answer → Lookahead → Took Lookahead
-took_of (answer.Block k) w = Block k w
-took_of answer.NoSpace w = None w
-took_of answer.Damaged w = Bad w
-took_of answer.Refused w = Bad w
+took_of (Ok k) w = Block k w
+took_of (Err refusal.NoSpace) w = None w
+took_of (Err e) w = Bad w
 
 -- the window as an allocator: its scans visit the table's files
 abbrev pub alloc_in : Setting → Table → Lookahead → List ℕ → Took Lookahead
@@ -55,8 +51,8 @@ growing size = record { until = suc size; trial = growth; reach = suc }
 -- a write's answer as that of a growth
 abbrev pub grew_as : Writing → ℕ → Growth
 grew_as (Written k s) off = grown_at k off
-grew_as NoRoom off = Err NoSpace
-grew_as Corrupt off = Err Damaged
+grew_as NoRoom off = Err refusal.NoSpace
+grew_as Corrupt off = Err refusal.Damaged
 
 abbrev pub grew_by : {W : Type 0} → ℕ → WriteOut W → GrowOut W
 grew_by off o = grow_out (grew_as o.answer off) o.image o.rest
@@ -65,7 +61,7 @@ grew_by off o = grow_out (grew_as o.answer off) o.image o.rest
 unfoldable pub extend_of : Setting → State → BlockList → GrowOut Lookahead
 extend_of c st l =
     elim (tested c st && table_ok st.table && leb l.size size_max) [
-      | false ↦ grow_out (Err Invalid) st.image st.window
+      | false ↦ grow_out (Err refusal.Invalid) st.image st.window
       | true ↦
           grew_by (offset_at c.B l.size)
           (write_by (flash c st.table) (growing l.size) (suc st.window.ckpoint)

@@ -3,10 +3,10 @@ ghost use Rattle.grow.specs.inner.Extend.{extend_in, Extending};
 ghost use Rattle.grow.specs.inner.Gives.{GrewGives};
 
 use crate::block::try_block;
-use crate::{Failed, Grew};
+use crate::{Failed, Grown};
 use files::Table;
 use layout::Refusal;
-use window::{Answer, Got, Lookahead};
+use window::{Lookahead, Windowed};
 
 // A growth with the files at hand: blocks are allocated until one takes the erase and the first program.
 pub(crate) fn extend_scan(
@@ -19,7 +19,7 @@ pub(crate) fn extend_scan(
     w: Lookahead,
     head: u32,
     size: u32,
-) -> Grew
+) -> Windowed<Result<Grown, Refusal>>
     requires { Extending b n l image.old health.now t w size }
     ensures { GrewGives
         (extend_in b n l health.now t w head size image.old)
@@ -30,36 +30,24 @@ pub(crate) fn extend_scan(
         let took = alloc::alloc_in(b, n, l, &image[..], t, window);
         window = took.window;
         match took.answer {
-            Answer::Block(k) => match try_block(image, health, b, n, k, head, size) {
+            Ok(k) => match try_block(image, health, b, n, k, head, size) {
                 Ok(grown) => {
-                    return Grew {
+                    return Windowed {
                         answer: Ok(grown),
                         window,
                     };
                 }
-                Err(Failed::Spoiled) => {}
                 Err(Failed::Refused(refusal)) => {
-                    return Grew {
+                    return Windowed {
                         answer: Err(refusal),
                         window,
                     };
                 }
+                Err(Failed::Spoiled) => {}
             },
-            Answer::NoSpace => {
-                return Grew {
-                    answer: Err(Refusal::NoSpace),
-                    window,
-                };
-            }
-            Answer::Damaged => {
-                return Grew {
-                    answer: Err(Refusal::Damaged),
-                    window,
-                };
-            }
-            Answer::Refused => {
-                return Grew {
-                    answer: Err(Refusal::Damaged),
+            Err(refusal) => {
+                return Windowed {
+                    answer: Err(refusal),
                     window,
                 };
             }
@@ -78,7 +66,7 @@ fn extend_rest(
     w: Lookahead,
     head: u32,
     size: u32,
-) -> Grew
+) -> Windowed<Result<Grown, Refusal>>
     requires { Extending b n l image.old health.now t w size }
     ensures { GrewGives
         (extend_in b n l health.now t w head size image.old)
@@ -98,7 +86,7 @@ pub fn extend_in(
     w: Lookahead,
     head: u32,
     size: u32,
-) -> Grew
+) -> Windowed<Result<Grown, Refusal>>
     requires { Extending b n l image.old health.now t w size }
     ensures { GrewGives
         (extend_in b n l health.now t w head size image.old)
@@ -107,22 +95,22 @@ pub fn extend_in(
     let taken = window::take(w, n);
     let window = taken.window;
     match taken.answer {
-        Got::Block(k) => {
+        Some(k) => {
             if health[k as usize] != 0 {
                 return extend_rest(b, n, l, image, health, t, w, head, size);
             }
             match try_block(image, health, b, n, k, head, size) {
-                Ok(grown) => Grew {
+                Ok(grown) => Windowed {
                     answer: Ok(grown),
                     window,
                 },
-                Err(Failed::Refused(refusal)) => Grew {
+                Err(Failed::Refused(refusal)) => Windowed {
                     answer: Err(refusal),
                     window,
                 },
                 Err(Failed::Spoiled) => unreachable!(),
             }
         }
-        Got::Empty => extend_rest(b, n, l, image, health, t, w, head, size),
+        None => extend_rest(b, n, l, image, health, t, w, head, size),
     }
 }

@@ -5,7 +5,6 @@ ghost use Rattle.device.specs.inner.Bounds.{Blank};
 ghost use Rattle.grow.specs.inner.Attempt.{attempt_of, try_of, LinkGives, Linking, put_pointers};
 
 use crate::{Failed, Grown};
-use device::{Erased, Programmed};
 use layout::Refusal;
 
 // The pointers of block `k`: the first names `head`, each next is read from the block just named; each is tested before it is programmed.
@@ -28,12 +27,7 @@ fn put_pointers(
         if n <= cur {
             return Err(Failed::Refused(Refusal::Damaged));
         }
-        match programs::program_word(image, health, b, k, 4 * x, cur) {
-            Programmed::Stored => {}
-            Programmed::Refused => {
-                return Err(Failed::Spoiled);
-            }
-        }
+        programs::program_word(image, health, b, k, 4 * x, cur)?;
         cur = card::pointer(&image[..], b, cur, x);
     }
     Ok(Grown {
@@ -73,13 +67,11 @@ fn link(
         let count = layout::pointer_count(index + 1);
         return put_pointers(image, health, b, n, k, count, head);
     }
-    match programs::program_copy(image, health, b, k, 0, head, 0, used) {
-        Programmed::Stored => Ok(Grown {
-            block: k,
-            offset: used,
-        }),
-        Programmed::Refused => Err(Failed::Spoiled),
-    }
+    programs::program_copy(image, health, b, k, 0, head, 0, used)?;
+    Ok(Grown {
+        block: k,
+        offset: used,
+    })
 }
 
 // A try with block `k`: erased, and linked to the list.
@@ -97,8 +89,6 @@ pub fn try_block(
         (try_of health.now b n k head size image.old)
         result image.new }
 {
-    match device::erase(image, health, b, k) {
-        Erased::Wiped => link(image, health, b, n, k, head, size),
-        Erased::Kept => Err(Failed::Spoiled),
-    }
+    device::erase(image, health, b, k)?;
+    link(image, health, b, n, k, head, size)
 }

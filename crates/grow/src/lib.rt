@@ -5,7 +5,7 @@ pub mod attempts;
 mod block;
 
 ghost use Rattle.std.specs.Prelude.{◌≡◌};
-ghost use Rattle.grow.specs.declared.Failed.TheVariants.{Refused};
+ghost use Rattle.grow.specs.declared.Failed.TheVariants as Failed;
 ghost use Rattle.grow.specs.Setting.{tested_of};
 ghost use Rattle.grow.specs.Extend.{extend_of};
 ghost use Rattle.grow.specs.inner.Setting.{setting};
@@ -13,9 +13,10 @@ ghost use Rattle.grow.specs.inner.Extend.{extend_tested};
 ghost use Rattle.grow.specs.inner.Gives.{GrewGives};
 
 use attempts::extend_scan;
+use device::Spoiled;
 use files::Table;
 use layout::{Geometry, Refusal};
-use window::Lookahead;
+use window::{Lookahead, Windowed};
 
 // The new last block of a list, and where in it the next byte goes.
 #[derive(Clone, Copy, Debug, PartialEq, Eq)]
@@ -32,19 +33,20 @@ pub enum Failed {
     Refused(Refusal),
 }
 
+impl From<Spoiled> for Failed {
+    ghost from_gives = { λ _ e. e ≡ Failed.Spoiled };
+
+    fn from(_spoiled: Spoiled) -> Failed {
+        Failed::Spoiled
+    }
+}
+
 impl From<Refusal> for Failed {
-    ghost from_gives = { λ refusal e. e ≡ Refused refusal };
+    ghost from_gives = { λ refusal e. e ≡ Failed.Refused refusal };
 
     fn from(refusal: Refusal) -> Failed {
         Failed::Refused(refusal)
     }
-}
-
-// What a growth answers, and the window after it.
-#[derive(Clone, Copy)]
-pub struct Grew {
-    pub answer: Result<Grown, Refusal>,
-    pub window: Lookahead,
 }
 
 // Whether a call that writes passes its first tests: geometry and slices, health bytes, L, and the window.
@@ -84,7 +86,7 @@ pub fn ctz_extend(
     w: Lookahead,
     head: u32,
     size: u32,
-) -> Grew
+) -> Windowed<Result<Grown, Refusal>>
     ensures { GrewGives
         (extend_of
         (record { B = g.block_size; N = g.block_count; L = l; health = health.now })
@@ -105,7 +107,7 @@ pub fn ctz_extend(
             size,
         );
     }
-    Grew {
+    Windowed {
         answer: Err(Refusal::Invalid),
         window: w,
     }

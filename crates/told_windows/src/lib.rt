@@ -4,9 +4,9 @@
 ghost use Rattle.std.specs.Prelude.{◌≡◌};
 ghost use Rattle.told_windows.specs.Windows.{replied_told, allocated_told, grew_told};
 
-use grow::{Grew, Grown};
-use window::setup::{Replied, Reply};
-use window::{Allocated, Answer, Lookahead};
+use grow::Grown;
+use layout::Refusal;
+use window::{Lookahead, Windowed};
 
 // A window handed back; on a refusal as it came, and that of zeros where none came.
 #[repr(C)]
@@ -16,19 +16,15 @@ pub struct TidWindow {
     pub window: Lookahead,
 }
 
-pub fn replied_told(w: Replied) -> TidWindow
-    ensures { result ≡ replied_told w }
+pub fn replied_told(reply: Windowed<Result<(), Refusal>>) -> TidWindow
+    ensures { result ≡ replied_told reply }
 {
-    let answer = w.answer;
-    let window = w.window;
-    match answer {
-        Reply::Done => TidWindow {
-            code: 0,
-            window: window,
-        },
-        Reply::Refused => TidWindow {
-            code: -22,
-            window: window,
+    let window = reply.window;
+    match reply.answer {
+        Ok(()) => TidWindow { code: 0, window },
+        Err(refusal) => TidWindow {
+            code: refusal.code(),
+            window,
         },
     }
 }
@@ -42,31 +38,20 @@ pub struct TidAlloc {
     pub window: Lookahead,
 }
 
-pub fn allocated_told(a: Allocated) -> TidAlloc
-    ensures { result ≡ allocated_told a }
+pub fn allocated_told(allocated: Windowed<Result<u32, Refusal>>) -> TidAlloc
+    ensures { result ≡ allocated_told allocated }
 {
-    let answer = a.answer;
-    let window = a.window;
-    match answer {
-        Answer::Block(block) => TidAlloc {
+    let window = allocated.window;
+    match allocated.answer {
+        Ok(block) => TidAlloc {
             code: 0,
-            block: block,
-            window: window,
+            block,
+            window,
         },
-        Answer::NoSpace => TidAlloc {
-            code: -28,
+        Err(refusal) => TidAlloc {
+            code: refusal.code(),
             block: 0,
-            window: window,
-        },
-        Answer::Damaged => TidAlloc {
-            code: -84,
-            block: 0,
-            window: window,
-        },
-        Answer::Refused => TidAlloc {
-            code: -22,
-            block: 0,
-            window: window,
+            window,
         },
     }
 }
@@ -81,11 +66,11 @@ pub struct TidExtend {
     pub window: Lookahead,
 }
 
-pub fn grew_told(a: Grew) -> TidExtend
-    ensures { result ≡ grew_told a.answer a.window }
+pub fn grew_told(grew: Windowed<Result<Grown, Refusal>>) -> TidExtend
+    ensures { result ≡ grew_told grew }
 {
-    let Grew { answer, window } = a;
-    match answer {
+    let window = grew.window;
+    match grew.answer {
         Ok(Grown { block, offset }) => TidExtend {
             code: 0,
             block,

@@ -9,21 +9,21 @@ use Rattle.grow.proofs.attempts.extend_in.Goals as goal
 
 pub bounds-health-k : goal.bounds-health-k
 bounds-health-k c =
-    let k = block_linking c.requires (rest_start c.requires c.args.head) (held c.requires c.take-taken.ensures c.in-Block.is) refl in
+    let k = block_linking c.requires (rest_start c.requires c.args.head) (held c.requires c.take-taken.ensures c.in-Some.is) refl in
     omega (arith, k.block, c.requires.known)
 
 pub try_block-requires : goal.try_block-requires
 try_block-requires c =
-    (block_linking c.requires (rest_start c.requires c.args.head) (held c.requires c.take-taken.ensures c.in-Block.is) refl, c.requires.fits)
+    (block_linking c.requires (rest_start c.requires c.args.head) (held c.requires c.take-taken.ensures c.in-Some.is) refl, c.requires.fits)
 
 pub returns-in-Ok : goal.returns-in-Ok
 returns-in-Ok c =
-    ends_done c.requires (rest_start c.requires c.args.head) (held c.requires c.take-taken.ensures c.in-Block.is) refl
+    ends_done c.requires (rest_start c.requires c.args.head) (held c.requires c.take-taken.ensures c.in-Some.is) refl
     c.try_block.ensures (Ok c.in-Ok.grown) c.in-Ok.is
 
 pub returns-in-Err-Refused : goal.returns-in-Err-Refused
 returns-in-Err-Refused c =
-    ends_done c.requires (rest_start c.requires c.args.head) (held c.requires c.take-taken.ensures c.in-Block.is) refl
+    ends_done c.requires (rest_start c.requires c.args.head) (held c.requires c.take-taken.ensures c.in-Some.is) refl
     c.try_block.ensures (Err c.in-Err-Refused.refusal) (c.in-Err-Refused.is ∙ ap Err c.in-Err-Refused.field-0-is)
 
 pub unreachable-requires : goal.unreachable-requires
