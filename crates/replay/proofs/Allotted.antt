@@ -73,7 +73,7 @@ module _ (list : List ℕ) (at card p h s : ℕ) (w : Lookahead) (image : List �
   image_decides q wanted y e u v f g =
       bytes_decide after wanted y f g ∙ sym (grown true e ∙ rw (grew_equal, ← x.image, ← u, ← v))
 
-  module _ (answer : TidExtend) (k : answer ≡ grew_told r.answer r.window) (e : whole ≡ false) (q : ℕ) (then : Lookahead) (u : q ≡ word_of list at 6) (v : then ≡ window_of list q) where
+  module _ (answer : TidExtend) (k : answer ≡ grew_told r) (e : whole ≡ false) (q : ℕ) (then : Lookahead) (u : q ≡ word_of list at 6) (v : then ≡ window_of list q) where
     parts : grown_equal whole list at card image ≡ (windows_agree answer.window then && told_of list at (bare_of answer.code) answer.block answer.offset 0)
     unfolding grew_equal
     parts = grown false e ∙ rw (grew_equal, k, v, u, x.window, x.answer)

@@ -19,6 +19,7 @@ use Rattle.layout.specs.Refusals.{refusal_code}
 use Rattle.layout.specs.Layout.{place_of}
 use Rattle.layout.specs.inner.Served.{block_list, geometry}
 use Rattle.card.specs.inner.Cards.{card_with}
+use Rattle.ctz.specs.declared.Found.{Found}
 use Rattle.ctz.specs.declared.visit.Visit.{Visit}
 use Rattle.ctz.specs.declared.visit.Step.{Step}
 use Rattle.ctz.specs.Lookup.{lookup_of}

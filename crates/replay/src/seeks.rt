@@ -30,7 +30,6 @@ fn one_file(size: u32) -> Table
 }
 
 // Where a seek leads in a file of a size.
-#[tactic(auto, using(records::proofs::Bare::bare_is), unfolding(crate::specs::Files::seek_equal))]
 pub fn seek(list: &[u8], at: usize) -> bool
     ensures { result ≡ seek_equal list.now at }
 {
