@@ -3,14 +3,14 @@ use mathlib.Core.Path.{◌≡◌, refl}
 use mathlib.Core.Logic.{◌⊎◌, inl, inr}
 use Prim.Native.Nat.{ℕ}
 use lib.IntN.{pos, negsuc}
-use Rattle.files.specs.declared.Table.{Table}
 use Rattle.std.specs.Prelude.{Result, Ok, Err}
+use Rattle.layout.specs.Refusals.{refusal_code}
 use Rattle.layout.specs.declared.Refusal.{Refusal}
 use Rattle.layout.specs.declared.Refusal.TheVariants as refusal
+use Rattle.files.specs.declared.Table.{Table}
 use Rattle.files.specs.Change.{changed}
 use Rattle.files.proofs.Kept.{create_cases, remove_cases}
 use Rattle.grow.specs.Setting.{Setting, State}
-use Rattle.store.specs.declared.Outcome.TheVariants as outcome
 use Rattle.store.specs.Store.{StoreOut}
 use Rattle.store.proofs.Refusals as refusals
 use Rattle.demands.specs.Calls.{Call, create, remove, write, truncate, look, Left, changed_in, stored_in, after}
@@ -25,24 +25,24 @@ module _ (s : State) where
   abbrev t : Table
   t = s.table
 
+  -- a refusal that leaves all as it came
+  refused_all : (r : Refusal) → AnyEnd s (record { code = refusal_code r; state = s })
+  refused_all refusal.Missing = unchanged 1 refl refl
+  refused_all refusal.TableFull = unchanged 11 refl refl
+  refused_all refusal.Exists = unchanged 16 refl refl
+  refused_all refusal.Invalid = unchanged 21 refl refl
+  refused_all refusal.TooLarge = unchanged 26 refl refl
+  refused_all refusal.NoSpace = unchanged 27 refl refl
+  refused_all refusal.Damaged = unchanged 83 refl refl
+
   -- a create or remove that is not accepted hands the table back
   refused_any : (a : Result (Unit {0}) Refusal) → (a ≡ Ok tt → ⊥) → AnyEnd s (changed_in s (changed a t))
   refused_any (Ok u) n = absurd (n refl)
-  refused_any (Err refusal.Missing) n = unchanged 1 refl refl
-  refused_any (Err refusal.TableFull) n = unchanged 11 refl refl
-  refused_any (Err refusal.Exists) n = unchanged 16 refl refl
-  refused_any (Err refusal.Invalid) n = unchanged 21 refl refl
-  refused_any (Err refusal.TooLarge) n = unchanged 26 refl refl
-  refused_any (Err refusal.NoSpace) n = unchanged 27 refl refl
-  refused_any (Err refusal.Damaged) n = unchanged 83 refl refl
+  refused_any (Err r) n = refused_all r
 
   stored_any : {o : StoreOut} → refusals.Ends s.window t s.image o → AnyEnd s (stored_in o)
-  stored_any (refusals.kept outcome.Done) = done refl
-  stored_any (refusals.kept outcome.Missing) = unchanged 1 refl refl
-  stored_any (refusals.kept outcome.TooLarge) = unchanged 26 refl refl
-  stored_any (refusals.kept outcome.Full) = unchanged 27 refl refl
-  stored_any (refusals.kept outcome.Damaged) = unchanged 83 refl refl
-  stored_any (refusals.kept outcome.Refused) = unchanged 21 refl refl
+  stored_any (refusals.kept (Ok u)) = done refl
+  stored_any (refusals.kept (Err r)) = refused_all r
   stored_any (refusals.done w i size head image) = done refl
   stored_any (refusals.full w image) = stopped 27 (inl refl) refl refl
   stored_any (refusals.damaged w image) = stopped 83 (inr refl) refl refl

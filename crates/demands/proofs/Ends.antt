@@ -5,6 +5,7 @@ use mathlib.Core.List.{List}
 use Prim.Native.Nat.{ℕ, ◌<◌}
 use lib.IntN.{pos, negsuc}
 use lib.ListN.{set}
+use Rattle.std.specs.Prelude.{Ok}
 use Rattle.layout.specs.inner.Served.{block_list}
 use Rattle.plain.specs.Bytes.{bytes}
 use Rattle.files.specs.declared.Entry.{Entry}
@@ -14,7 +15,6 @@ use Rattle.files.specs.Change.{with_list}
 use Rattle.files.proofs.Replaced.{altered}
 use Rattle.window.specs.declared.Lookahead.{Lookahead}
 use Rattle.grow.specs.Setting.{State}
-use Rattle.store.specs.declared.Outcome.TheVariants as outcome
 use Rattle.store.specs.Store.{left}
 use Rattle.store.specs.inner.Calls.{ask_write, ask_truncate}
 use Rattle.demands.specs.Calls.{Call, write, truncate, Left, stored_in}
@@ -68,10 +68,10 @@ module _ {B N l : ℕ} {s : State} (h : Held B N l s) (number i : ℕ) (b : i < 
 
   pub ends_write : (fits : Bool) (at : ℕ) (src : List ℕ) → plain_code fits (write (ask_write number at src)) (files_in B s) ≡ pos 0
       → plain_change number g (files_in B s) ≡ plain_after (write (ask_write number at src)) (files_in B s)
-      → Ends B N l fits (write (ask_write number at src)) s (stored_in (left outcome.Done w (with_list t i (record { head = head; size = size })) image))
+      → Ends B N l fits (write (ask_write number at src)) s (stored_in (left (Ok tt) w (with_list t i (record { head = head; size = size })) image))
   ends_write fits at src c q = accepted refl c (files ∙ q) (record { kept = kept; came_in = came_in; reads = r }) again
 
   pub ends_truncate : (fits : Bool) (size' : ℕ) → plain_code fits (truncate (ask_truncate number size')) (files_in B s) ≡ pos 0
       → plain_change number g (files_in B s) ≡ plain_after (truncate (ask_truncate number size')) (files_in B s)
-      → Ends B N l fits (truncate (ask_truncate number size')) s (stored_in (left outcome.Done w (with_list t i (record { head = head; size = size })) image))
+      → Ends B N l fits (truncate (ask_truncate number size')) s (stored_in (left (Ok tt) w (with_list t i (record { head = head; size = size })) image))
   ends_truncate fits size' c q = accepted refl c (files ∙ q) (record { kept = kept; came_in = came_in; reads = r }) again

@@ -8,6 +8,7 @@ use borrow.Author.Tests.{lt-ltb}
 use lib.ListN.{length, take, drop}
 use Rattle.layout.specs.Layout.{offset_at}
 use Rattle.layout.specs.Numbers.{size_max, accepted}
+use Rattle.layout.specs.Refusals.{answer_code}
 use Rattle.layout.specs.inner.Served.{block_list}
 use Rattle.card.specs.inner.Cards.{card_with}
 use Rattle.ctz.specs.Lists.{SoundList}
@@ -23,7 +24,7 @@ use Rattle.files.specs.Seek.{whence_of, seek_of, Seek}
 use Rattle.files.proofs.Cases as cases
 use Rattle.files.proofs.Tests.{ltb_cases, leb_cases}
 use Rattle.grow.specs.Setting.{State}
-use Rattle.reading.specs.Calls.{asked_of, read_of, stretch_of, stretch_bytes, placed_code, FilePosition}
+use Rattle.reading.specs.Calls.{asked_of, read_of, stretch_of, stretch_bytes, FilePosition}
 use Rattle.reading.specs.inner.Bounds.{file_position}
 use Rattle.reading.proofs.Plain as reads
 use Rattle.demands.specs.Came.{Sounds}
@@ -129,23 +130,23 @@ module _ {g : Shape} {s : State} (sounds : Sounds g s) where
     part = stretch_bytes s.image (stretch_of (card_with B N s.image) t (file_position number p)) ≡ plain_stretch B (file_position number p) fs
 
     abbrev code : Type 0
-    code = placed_code (stretch_of (card_with B N s.image) t (file_position number p)) ≡ stretch_code (file_position number p) fs
+    code = answer_code (stretch_of (card_with B N s.image) t (file_position number p)) ≡ stretch_code (file_position number p) fs
 
     stretch_at : (i : ℕ) → Placed number (file t i) i (held t) → find_of t number ≡ Ok i → p ≤ size_max
         → (stretch_bytes s.image (stretch_of (card_with B N s.image) t (file_position number p)) ≡ stretch_from B (file_bytes number fs) p)
-        × (placed_code (stretch_of (card_with B N s.image) t (file_position number p)) ≡ accepted)
+        × (answer_code (stretch_of (card_with B N s.image) t (file_position number p)) ≡ accepted)
     stretch_at i pl q n =
         ltb_cases p (file t i).size (λ b. (stretch_bytes s.image (stretch_of (card_with B N s.image) t (file_position number p)) ≡ stretch_from B (file_bytes number fs) p)
-        × (placed_code (stretch_of (card_with B N s.image) t (file_position number p)) ≡ accepted))
+        × (answer_code (stretch_of (card_with B N s.image) t (file_position number p)) ≡ accepted))
         (λ l. (
           reads.stretch_plain B N s.image t number i p sounds.card q n (sl number i pl) l ∙ rw (length_here number i pl, bytes_here number i pl),
-          ap placed_code (reads.stretch_at B N s.image t number i p sounds.card q n (sl number i pl) l),
+          ap answer_code (reads.stretch_at B N s.image t number i p sounds.card q n (sl number i pl) l),
         ))
         (λ m.
         let e = reads.stretch_end B N s.image t number i p sounds.card q n (sl number i pl) m in
         let z : 0 ≡ min (B - offset_at B p) (length (file_bytes number fs) - p) = omega (arith, length_here number i pl) in (
           ap (stretch_bytes s.image) e ∙ ap (λ (k : ℕ). take k (drop p (file_bytes number fs))) z,
-          ap placed_code e,
+          ap answer_code e,
         ))
 
     stretch_there : part × code
@@ -169,5 +170,5 @@ module _ {g : Shape} {s : State} (sounds : Sounds g s) where
 
   pub stretch_plain : (r : FilePosition)
       → (stretch_bytes s.image (stretch_of (card_with g.B g.N s.image) s.table (file_position r.number r.position)) ≡ plain_stretch g.B r (files_in g.B s))
-      × (placed_code (stretch_of (card_with g.B g.N s.image) s.table (file_position r.number r.position)) ≡ stretch_code r (files_in g.B s))
+      × (answer_code (stretch_of (card_with g.B g.N s.image) s.table (file_position r.number r.position)) ≡ stretch_code r (files_in g.B s))
   stretch_plain r = stretch_there r.number r.position

@@ -13,7 +13,7 @@ use Rattle.plain.specs.Bytes.{bytes}
 use Rattle.files.specs.declared.Table.{Table}
 use Rattle.std.specs.Prelude.{Result, Ok}
 use Rattle.layout.specs.declared.Refusal.{Refusal}
-use Rattle.layout.specs.declared.Refusal.TheVariants.{Invalid}
+use Rattle.layout.specs.declared.Refusal.TheVariants.{Missing, Invalid}
 use Rattle.files.specs.Table.{held, file, find_of}
 use Rattle.files.proofs.Tests.{ltb_cases, eqb_cases}
 use Rattle.window.specs.declared.Lookahead.{Lookahead}
@@ -108,9 +108,9 @@ module _ {B N l : ℕ} {s : State} (h : Held B N l s) (health : List ℕ) (numbe
 
         found_by : {r : Result ℕ Refusal} → FindView t number r → find_of t number ≡ r → tested ≡ true → Wrote true call
         found_by (high k) q te =
-            wrote_by (calls.write_no_table B N l img health w t number p src te Invalid (λ z. let y : ◌≡◌ {A = ℕ} 0 1 = cc in omega arith) q) (refused 21 (omega arith) refl (rw (meets_high number p fs k)) refl)
+            wrote_by (calls.write_refused B N l img health w t number p src te Invalid q) (refused 21 (omega arith) refl (rw (meets_high number p fs k)) refl)
         found_by (missing a u) q te =
-            wrote_by (calls.write_missing B N l img health w t number p src te q)
+            wrote_by (calls.write_refused B N l img health w t number p src te Missing q)
             (refused 1 (omega arith) refl (rw (meets_none number p fs a (contents.unnamed_holds B img u))) refl)
         found_by (at i a b pl) q te = found_one i a b pl te q
 

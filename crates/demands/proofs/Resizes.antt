@@ -23,7 +23,7 @@ use Rattle.files.specs.declared.Entry.{Entry}
 use Rattle.files.specs.declared.Table.{Table}
 use Rattle.std.specs.Prelude.{Result, Ok}
 use Rattle.layout.specs.declared.Refusal.{Refusal}
-use Rattle.layout.specs.declared.Refusal.TheVariants.{Invalid}
+use Rattle.layout.specs.declared.Refusal.TheVariants.{Missing, Invalid}
 use Rattle.files.specs.Table.{held, file, find_of}
 use Rattle.files.proofs.Tests.{ltb_cases, eqb_cases}
 use Rattle.window.specs.declared.Lookahead.{Lookahead}
@@ -178,9 +178,9 @@ module _ {B N l : ℕ} {s : State} (h : Held B N l s) (health : List ℕ) (numbe
 
       found_by : {r : Result ℕ Refusal} → FindView t number r → find_of t number ≡ r → tested ≡ true → Resized true call
       found_by (high k) q te =
-          resized_by (calls.truncate_no_table B N l img health w t number size te Invalid (λ z. let y : ◌≡◌ {A = ℕ} 0 1 = cc in omega arith) q) (refused 21 (omega arith) refl (rw (meets_high number size fs k)) refl)
+          resized_by (calls.truncate_refused B N l img health w t number size te Invalid q) (refused 21 (omega arith) refl (rw (meets_high number size fs k)) refl)
       found_by (missing a u) q te =
-          resized_by (calls.truncate_missing B N l img health w t number size te q)
+          resized_by (calls.truncate_refused B N l img health w t number size te Missing q)
           (refused 1 (omega arith) refl (rw (meets_none number size fs a (contents.unnamed_holds B img u))) refl)
       found_by (at i a b pl) q te = found_one i a b pl te q
 

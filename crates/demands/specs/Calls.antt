@@ -1,11 +1,12 @@
 -- The store calls, and what each leaves by its own definition (01, "Store calls").
 use Rattle.std.specs.Prelude.{List, ℕ, ℤ}
 use Rattle.layout.specs.Numbers.{accepted}
+use Rattle.layout.specs.Refusals.{answer_code}
 use Rattle.files.specs.declared.change.Changed.{Changed}
-use Rattle.files.specs.Change.{create_of, remove_of, change_code}
+use Rattle.files.specs.Change.{create_of, remove_of}
 use Rattle.grow.specs.Setting.{Setting, State}
 use Rattle.store.specs.Asked.{WriteAsked, TruncateAsked}
-use Rattle.store.specs.Store.{StoreOut, store_write, store_truncate, outcome_code}
+use Rattle.store.specs.Store.{StoreOut, store_write, store_truncate}
 
 -- Create and remove name a file number. Size, read, stretch and seek change nothing: each of them is a look.
 pub data Call : Type 0 where
@@ -23,11 +24,11 @@ pub record Left : Type 0 where
 -- create and remove see the table only
 abbrev pub changed_in : State → Changed → Left
 changed_in s c =
-    record { code = change_code c.answer; state = record { window = s.window; table = c.table; image = s.image } }
+    record { code = answer_code c.answer; state = record { window = s.window; table = c.table; image = s.image } }
 
 -- write and truncate
 abbrev pub stored_in : StoreOut → Left
-stored_in o = record { code = outcome_code o.answer; state = o.state }
+stored_in o = record { code = answer_code o.answer; state = o.state }
 
 -- one call
 unfoldable pub after : Setting → Call → State → Left

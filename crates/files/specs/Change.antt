@@ -1,10 +1,9 @@
 -- How create, remove and the store change a table.
-use Rattle.std.specs.Prelude.{true, false, List, [], ◌∷◌, ℕ, Result, Ok, Err, set, ltb, eqb, ℤ}
+use Rattle.std.specs.Prelude.{true, false, List, [], ◌∷◌, ℕ, Result, Ok, Err, set, ltb, eqb}
 use Rattle.layout.specs.declared.Refusal.{Refusal}
 use Rattle.layout.specs.declared.Refusal.TheVariants.{Missing, TableFull, Exists}
 use Rattle.layout.specs.Layout.{BlockList}
-use Rattle.layout.specs.Refusals.{refusal_code}
-use Rattle.layout.specs.Numbers.{files_max, null_block, accepted}
+use Rattle.layout.specs.Numbers.{files_max, null_block}
 use Rattle.files.specs.declared.Entry.{Entry}
 use Rattle.files.specs.declared.Table.{Table}
 use Rattle.files.specs.declared.change.Changed.{Changed}
@@ -48,11 +47,6 @@ remove_of t number =
       | Ok i ↦ changed (Ok tt) (table_of (without_of number (held t)))
       | Err r ↦ changed (Err r) t
     ]
-
--- -2 no such file; -12 32 files held; -17 exists; -22 table value, file number
-abbrev pub change_code : Result (Unit {0}) Refusal → ℤ
-change_code (Ok a) = accepted
-change_code (Err r) = refusal_code r
 
 -- the table with another list of the file at place i: the store's change
 abbrev pub with_list : Table → ℕ → BlockList → Table

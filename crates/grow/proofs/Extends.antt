@@ -1,5 +1,6 @@
 -- The loop of a growth: what is left to do equals the whole, and the checkpoint count bounds the tries.
 use mathlib.Core.Path.{◌≡◌, refl, sym, ap, ◌∙◌}
+use mathlib.Core.Logic.{inl, inr}
 use mathlib.Core.List.{List}
 use Prim.Native.Nat.{ℕ, suc, ◌-◌, ◌<◌}
 use native.Mathlib.Omega.{arith}
@@ -16,13 +17,9 @@ use Rattle.window.specs.inner.Facts.{ValidWindow, scope}
 use Rattle.alloc.specs.Visits.{seen_in}
 use Rattle.alloc.specs.inner.Facts.{Ready}
 use Rattle.alloc.proofs.Turning.{allocating, answers_block}
-use Rattle.grow.specs.declared.Growth.{Growth}
-use Rattle.grow.specs.declared.Growth.TheVariants.{Full, Damaged}
-use Rattle.grow.specs.declared.Grew.{Grew}
-use Rattle.grow.specs.declared.block.Linked.{Linked}
-use Rattle.grow.specs.declared.block.Linked.TheVariants.{Done, Spoiled}
-use Rattle.grow.specs.Extend.{GrowOut, grow_out}
-use Rattle.grow.specs.inner.Attempt.{try_of, LinkGives, Linking}
+use Rattle.grow.specs.declared.Failed.TheVariants as failed
+use Rattle.grow.specs.Extend.{Growth, GrowOut, grow_out}
+use Rattle.grow.specs.inner.Attempt.{Tried, tried_of, try_of, LinkGives, Linking}
 use Rattle.grow.specs.inner.Grow.{grow_of}
 use Rattle.grow.specs.inner.Extend.{window_alloc, extend_in, Extending}
 use Rattle.grow.specs.inner.Gives.{GrewGives}
@@ -43,12 +40,12 @@ pub grew : {o : GrowOut Lookahead} (a : Growth) (after : List ℕ) (v : Lookahea
 grew a after v e = rw e (record { answer = refl; window = refl; image = refl })
 
 -- two outcomes that a definition allows are one
-told : {o : GrowOut Lookahead} {r : Grew} {after : List ℕ} → GrewGives o r after → r ≡ record { answer = o.answer; window = o.rest }
+told : {o : GrowOut Lookahead} {r : Windowed Growth} {after : List ℕ} → GrewGives o r after → r ≡ record { answer = o.answer; window = o.rest }
 told {o} {r} g =
     ap (λ (x : Growth). record { answer = x; window = r.window }) g.answer
     ∙ ap (λ (x : Lookahead). record { answer = o.answer; window = x }) g.window
 
-pub one_growth : {o : GrowOut Lookahead} {r r' : Grew} {after after' : List ℕ} → GrewGives o r after → GrewGives o r' after' → (r ≡ r') × (after ≡ after')
+pub one_growth : {o : GrowOut Lookahead} {r r' : Windowed Growth} {after after' : List ℕ} → GrewGives o r after → GrewGives o r' after' → (r ≡ r') × (after ≡ after')
 one_growth g h = (told g ∙ sym (told h), g.image ∙ sym h.image)
 
 module _ {B N l : ℕ} {health : List ℕ} {t : Table} {w₀ : Lookahead} {s : ℕ} {img₀ : List ℕ} (x : Extending B N l img₀ health t w₀ s) where
@@ -81,20 +78,18 @@ module _ {B N l : ℕ} {health : List ℕ} {t : Table} {w₀ : Lookahead} {s : �
 
     -- the allocation answered
     module _ {a : Allocated} (p : a ≡ alloc_of (scope N l) (seen_in (card_with B N img) t) w) where
-      pub ends_full : a.answer ≡ Err refusal.NoSpace
-          → GrewGives (extend_in B N l health t w₀ head s img₀) (record { answer = Full; window = a.window }) img
-      ends_full e =
-          grew Full img a.window
-          (begun ∙ grow_none (window_alloc B N l t) (r.tries - 1) w a.window health B N head s img (took_none B N l t w img p e))
-
-      pub ends_damaged : {x : Refusal} → a.answer ≡ Err x → (x ≡ refusal.NoSpace → ⊥)
-          → GrewGives (extend_in B N l health t w₀ head s img₀) (record { answer = Damaged; window = a.window }) img
-      ends_damaged e n =
-          grew Damaged img a.window
-          (begun ∙ grow_bad (window_alloc B N l t) (r.tries - 1) w a.window health B N head s img (took_bad B N l t w img p e n))
-
       pub outcome : Outcome N l w.ckpoint a
       outcome = rw p (allocated N l (seen_in (card_with B N img) t) w r.valid)
+
+      pub ends_refused : {x : Refusal} → a.answer ≡ Err x
+          → GrewGives (extend_in B N l health t w₀ head s img₀) (record { answer = Err x; window = a.window }) img
+      ends_refused {x} e =
+          elim (outcome.refused x e) [
+            | inl n ↦ rw n (grew (Err refusal.NoSpace) img a.window
+                (begun ∙ grow_none (window_alloc B N l t) (r.tries - 1) w a.window health B N head s img (took_none B N l t w img p (e ∙ ap Err n))))
+            | inr d ↦ rw d (grew (Err refusal.Damaged) img a.window
+                (begun ∙ grow_bad (window_alloc B N l t) (r.tries - 1) w a.window health B N head s img (took_bad B N l t w img p (e ∙ ap Err d))))
+          ]
 
       -- with a block
       module _ {k : ℕ} (e : a.answer ≡ Ok k) where
@@ -104,14 +99,14 @@ module _ {B N l : ℕ} {health : List ℕ} {t : Table} {w₀ : Lookahead} {s : �
         pub block_linking : Linking B N k img health
         block_linking = record { card = rest_ready.card; known = x.known; block = outcome.below k e }
 
-        module _ {q : Linked} {img' : List ℕ} (g : LinkGives (try_of health B N k head s img) q img') where
-          pub ends_done : (f : Growth) → q ≡ Done f
+        module _ {q : Tried} {img' : List ℕ} (g : LinkGives (try_of health B N k head s img) q img') where
+          pub ends_done : (f : Growth) → q ≡ tried_of f
               → GrewGives (extend_in B N l health t w₀ head s img₀) (record { answer = f; window = a.window }) img'
           ends_done f d =
               grew f img' a.window
               (begun ∙ grow_done (window_alloc B N l t) (r.tries - 1) w a.window health B N head s img k (took_block B N l t w img p e) g f d)
 
-          pub moves_on : q ≡ Spoiled → length img' ≡ length img → Rest B N l health t w₀ head s img₀ a.window img'
+          pub moves_on : q ≡ Err failed.Spoiled → length img' ≡ length img → Rest B N l health t w₀ head s img₀ a.window img'
           moves_on d n =
               record {
                 long = n ∙ r.long;

@@ -8,7 +8,7 @@ pub mod Tries
 pub mod Takes
 pub mod Extends
 pub mod Tests
-pub mod Grown
+pub mod Growing
 pub mod Pointed
 pub mod Growths
 pub mod Same

@@ -9,40 +9,41 @@ use native.Mathlib.Omega.{arith}
 use borrow.Author.Tests.{lt-ltb, le-ltb, eq-eqb, ne_eqb}
 use lib.Dec.{ltb, eqb}
 use lib.ListN.{take, drop}
+use Rattle.std.specs.Prelude.{Err}
 use Rattle.layout.specs.Layout.{pointers, index_at, offset_at}
 use Rattle.layout.specs.Numbers.{size_max}
 use Rattle.layout.specs.inner.Served.{BlockSized, Served}
 use Rattle.layout.proofs.Places.{Same, Next, next_place, offset_inside}
 use Rattle.layout.proofs.Laws.{pointers_pos}
 use Rattle.layout.proofs.Served.{served, index_in, index_below, pointers_fit}
+use Rattle.layout.specs.declared.Refusal.TheVariants as refusal
 use Rattle.health.specs.Health.{refuses_program}
 use Rattle.device.specs.Device.{stored}
 use Rattle.device.specs.inner.Bounds.{spot}
 use Rattle.device.specs.inner.Steps.{Answer, done, refused, program_of, StepGives}
 use Rattle.device.proofs.Steps.{told_done, told_refused}
-use Rattle.grow.specs.declared.Growth.TheVariants.{Grown, Damaged}
-use Rattle.grow.specs.declared.block.Linked.TheVariants.{Done, Spoiled}
-use Rattle.grow.specs.Extend.{grow_out}
-use Rattle.grow.specs.inner.Attempt.{attempt_of, put_pointers}
+use Rattle.grow.specs.declared.Failed.TheVariants as failed
+use Rattle.grow.specs.Extend.{grown_at, grow_out}
+use Rattle.grow.specs.inner.Attempt.{tried_of, attempt_of, put_pointers}
 use Rattle.grow.specs.inner.Grow.{part, pointers_of, link_of, spoils}
 use Rattle.grow.proofs.Spoils.{spoils_stored, spoils_empty, spoils_damaged, spoils_refused, spoils_some}
 use Rattle.grow.proofs.Pointers.{pointers_rest}
 
 module _ {W : Type 0} (B N k head : ℕ) (img : List ℕ) (w : W) where
   -- size 0 stops there with offset 0
-  pub link_empty : link_of B N k head 0 img w ≡ grow_out (Grown k 0) img w
+  pub link_empty : link_of B N k head 0 img w ≡ grow_out (grown_at k 0) img w
   unfolding link_of
   link_empty = refl
 
   module _ (p : ℕ) where
-    pub link_damaged : N ≤ head → link_of B N k head (suc p) img w ≡ grow_out Damaged img w
+    pub link_damaged : N ≤ head → link_of B N k head (suc p) img w ≡ grow_out (Err refusal.Damaged) img w
     unfolding link_of
     link_damaged h = rw (link_of, le-ltb head N h)
 
     -- an incomplete last block has its bytes copied
     pub link_copied : head < N → (suc (offset_at B p) ≡ B → ⊥)
         → link_of B N k head (suc p) img w
-        ≡ grow_out (Grown k (suc (offset_at B p))) (stored B img (spot k 0) (part B head 0 (suc (offset_at B p)) img)) w
+        ≡ grow_out (grown_at k (suc (offset_at B p))) (stored B img (spot k 0) (part B head 0 (suc (offset_at B p)) img)) w
     unfolding link_of
     link_copied h n = rw (link_of, lt-ltb head N h, ne_eqb (suc (offset_at B p)) B n)
 
@@ -104,19 +105,19 @@ module _ {B : ℕ} (z : BlockSized B) (p : ℕ) (w : suc p ≤ size_max) where
 -- ---- as `link` meets them
 
 module _ (health : List ℕ) (B N k head s : ℕ) (img : List ℕ) where
-  pub attempt_empty : s ≡ 0 → attempt_of health B N k head s img ≡ record { answer = Done (Grown k 0); image = img }
+  pub attempt_empty : s ≡ 0 → attempt_of health B N k head s img ≡ record { answer = tried_of (grown_at k 0); image = img }
   unfolding attempt_of link_of
   attempt_empty e = rw (attempt_of, spoils_empty health N k head s e, e)
 
   module _ (p : ℕ) (e : s ≡ suc p) where
-    pub attempt_damaged : N ≤ head → attempt_of health B N k head s img ≡ record { answer = Done Damaged; image = img }
+    pub attempt_damaged : N ≤ head → attempt_of health B N k head s img ≡ record { answer = Err (failed.Refused refusal.Damaged); image = img }
     unfolding attempt_of
     attempt_damaged h = rw (attempt_of, spoils_damaged health N k head s h, e, link_damaged B N k head img (tt {0}) p h)
 
     -- a copy was asked: r is the device's answer, img' the image that it left
     module _ {r : Answer} {img' : List ℕ} (used : ℕ) (h : head < N)
         (g : StepGives (program_of health B k 0 (take used (drop (head * B + 0) img)) img) r img') where
-      pub attempt_spoiled : r ≡ refused → attempt_of health B N k head s img ≡ record { answer = Spoiled; image = img' }
+      pub attempt_spoiled : r ≡ refused → attempt_of health B N k head s img ≡ record { answer = Err failed.Spoiled; image = img' }
       unfolding attempt_of
       attempt_spoiled q =
           let t = told_refused (refuses_program health k) img (stored B img (spot k 0) (take used (drop (head * B + 0) img))) (sym g.answer ∙ q) in
@@ -124,7 +125,7 @@ module _ (health : List ℕ) (B N k head s : ℕ) (img : List ℕ) where
           rw (attempt_of, spoils_refused health N k head s t.0 l h, g.image, t.1)
 
       pub attempt_copied : used ≡ suc (offset_at B p) → (used ≡ B → ⊥) → r ≡ done
-          → attempt_of health B N k head s img ≡ record { answer = Done (Grown k used); image = img' }
+          → attempt_of health B N k head s img ≡ record { answer = tried_of (grown_at k used); image = img' }
       unfolding attempt_of part
       attempt_copied u n q =
           let t = told_done (refuses_program health k) img (stored B img (spot k 0) (take used (drop (head * B + 0) img))) (sym g.answer ∙ q) in

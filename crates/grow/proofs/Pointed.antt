@@ -8,8 +8,10 @@ use native.Mathlib.Omega.{arith}
 use lib.Dec.{ltb}
 use lib.ListN.{length, take, drop, length-take, length-drop}
 use lib.Seq.{take-take, drop-drop}
+use Rattle.std.specs.Prelude.{Err}
 use Rattle.span.specs.Words.{bytes32}
 use Rattle.layout.specs.Layout.{pointers}
+use Rattle.layout.specs.declared.Refusal.TheVariants as refusal
 use Rattle.card.specs.Card.{block_of}
 use Rattle.card.specs.inner.Cards.{CardFacts}
 use Rattle.card.proofs.Cards.{block_inside}
@@ -17,10 +19,8 @@ use Rattle.device.specs.Device.{stored}
 use Rattle.device.proofs.Frame.{stored_append}
 use Rattle.trials.specs.Trial.{Trial, Ending, Whole, Fault, Refused, ends}
 use Rattle.trials.specs.Loop.{Candidate}
-use Rattle.grow.specs.declared.Growth.{Growth}
-use Rattle.grow.specs.declared.Growth.TheVariants.{Grown, Damaged}
 use Rattle.grow.specs.Growth.{with, Link, linked, following, links}
-use Rattle.grow.specs.Extend.{GrowOut, grow_out}
+use Rattle.grow.specs.Extend.{Growth, grown_at, GrowOut, grow_out}
 use Rattle.grow.specs.inner.Grow.{part, pointers_of}
 
 -- ---- n bytes of a block from offset o on
@@ -42,9 +42,9 @@ part_length B N f n img c l h = simp (length-take, length-drop) (omega (arith, b
 -- ---- what a growth leaves, by its bytes
 
 abbrev pub grows : ℕ → ℕ → Ending → Growth
-grows k off Whole = Grown k off
-grows k off Fault = Damaged
-grows k off Refused = Damaged
+grows k off Whole = grown_at k off
+grows k off Fault = Err refusal.Damaged
+grows k off Refused = Err refusal.Damaged
 
 abbrev pub given : {W : Type 0} → Candidate → ℕ → ℕ → Trial → List ℕ → W → GrowOut W
 given q off o t img w = grow_out (grows q.k off t.ending) (with q img o t.bytes) w

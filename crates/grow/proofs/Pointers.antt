@@ -7,6 +7,8 @@ use native.Mathlib.Numerals.{add-one}
 use native.Mathlib.Omega.{arith}
 use borrow.Author.Tests.{lt-ltb, le-ltb}
 use lib.Dec.{ltb}
+use Rattle.std.specs.Prelude.{Err}
+use Rattle.layout.specs.declared.Refusal.TheVariants as refusal
 use Rattle.span.specs.Words.{bytes32}
 use Rattle.span.proofs.Words.{length_bytes32}
 use Rattle.card.specs.Card.{pointer}
@@ -16,21 +18,20 @@ use Rattle.device.specs.inner.Bounds.{spot, Blank}
 use Rattle.device.specs.inner.Steps.{Answer, done, refused, program_of, StepGives}
 use Rattle.device.proofs.Steps.{told_done, told_refused}
 use Rattle.device.proofs.Blanks.{blank_part, blank_programmed}
-use Rattle.grow.specs.declared.Growth.TheVariants.{Grown, Damaged}
-use Rattle.grow.specs.declared.block.Linked.TheVariants.{Done, Spoiled}
-use Rattle.grow.specs.Extend.{grow_out}
+use Rattle.grow.specs.declared.Failed.TheVariants as failed
+use Rattle.grow.specs.Extend.{grown_at, grow_out}
 use Rattle.grow.specs.inner.Grow.{pointers_of}
-use Rattle.grow.specs.inner.Attempt.{put_pointers}
+use Rattle.grow.specs.inner.Attempt.{tried_of, put_pointers}
 use Rattle.grow.proofs.Spoils.{spoils_stored, spoils_empty, spoils_damaged, spoils_refused}
 
 module _ {W : Type 0} (m B N k off x cur : ℕ) (img : List ℕ) (w : W) where
   -- all pointers are there
-  pub pointers_done : m ≡ 0 → pointers_of m B N k off x cur img w ≡ grow_out (Grown k off) img w
+  pub pointers_done : m ≡ 0 → pointers_of m B N k off x cur img w ≡ grow_out (grown_at k off) img w
   unfolding pointers_of
   pointers_done e = rw e
 
   -- a number that is not below N is not programmed
-  pub pointers_damaged : (r : ℕ) → m ≡ suc r → N ≤ cur → pointers_of m B N k off x cur img w ≡ grow_out Damaged img w
+  pub pointers_damaged : (r : ℕ) → m ≡ suc r → N ≤ cur → pointers_of m B N k off x cur img w ≡ grow_out (Err refusal.Damaged) img w
   unfolding pointers_of
   pointers_damaged r e h = rw (e, pointers_of, le-ltb cur N h)
 
@@ -75,13 +76,13 @@ words_blank health count x cur l g b =
     (blank_part (4 * (x + 1)) (4 * (count - (x + 1))) (omega arith) (omega arith) b)
 
 module _ (health : List ℕ) (B N k off count x cur : ℕ) (img : List ℕ) where
-  pub put_done : count ≤ x → put_pointers health B N k off (count - x) x cur img ≡ record { answer = Done (Grown k off); image = img }
+  pub put_done : count ≤ x → put_pointers health B N k off (count - x) x cur img ≡ record { answer = tried_of (grown_at k off); image = img }
   unfolding put_pointers
   put_done h =
       let e : count - x ≡ 0 = omega arith in
       rw (put_pointers, spoils_empty health N k cur (count - x) e, pointers_done (count - x) B N k off x cur img (tt {0}) e)
 
-  pub put_damaged : x < count → N ≤ cur → put_pointers health B N k off (count - x) x cur img ≡ record { answer = Done Damaged; image = img }
+  pub put_damaged : x < count → N ≤ cur → put_pointers health B N k off (count - x) x cur img ≡ record { answer = Err (failed.Refused refusal.Damaged); image = img }
   unfolding put_pointers
   put_damaged l h =
       let e : count - x ≡ suc (count - (x + 1)) = omega arith in
@@ -90,7 +91,7 @@ module _ (health : List ℕ) (B N k off count x cur : ℕ) (img : List ℕ) wher
   -- a program was asked: r is the device's answer, img' the image that it left
   module _ {r : Answer} {img' : List ℕ} (l : x < count) (h : cur < N)
       (g : StepGives (program_of health B k (4 * x) (bytes32 cur) img) r img') where
-    pub put_spoiled : r ≡ refused → put_pointers health B N k off (count - x) x cur img ≡ record { answer = Spoiled; image = img' }
+    pub put_spoiled : r ≡ refused → put_pointers health B N k off (count - x) x cur img ≡ record { answer = Err failed.Spoiled; image = img' }
     unfolding put_pointers
     put_spoiled e =
         let t = told_refused (refuses_program health k) img (stored B img (spot k (4 * x)) (bytes32 cur)) (sym g.answer ∙ e) in

@@ -9,8 +9,7 @@ use Rattle.card.specs.inner.Cards.{PointerAsked}
 use Rattle.card.proofs.Cards.{block_inside}
 use Rattle.device.specs.inner.Bounds.{BlockIn, RoomIn, CopyFrom}
 use Rattle.device.proofs.Bounds.{same_offset}
-use Rattle.grow.specs.declared.block.Linked.{Linked}
-use Rattle.grow.specs.inner.Attempt.{LinkOut, LinkGives, Linking}
+use Rattle.grow.specs.inner.Attempt.{Tried, LinkOut, LinkGives, Linking}
 
 -- an erase of block k
 pub block_of : {B N k : ℕ} {img health : List ℕ} → Linking B N k img health → BlockIn B k img health
@@ -30,5 +29,5 @@ pub asked_of : {B N k : ℕ} {img health : List ℕ} (j x len : ℕ) → Linking
     → PointerAsked B j x len
 asked_of j x len l e h r = record { stored = omega arith; inside = omega (arith, block_inside l.card h) }
 
-pub gives : {o : LinkOut} (r : Linked) (after : List ℕ) → o ≡ record { answer = r; image = after } → LinkGives o r after
+pub gives : {o : LinkOut} (r : Tried) (after : List ℕ) → o ≡ record { answer = r; image = after } → LinkGives o r after
 gives r after e = rw e (record { answer = refl; image = refl })

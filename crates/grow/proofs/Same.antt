@@ -10,6 +10,7 @@ use lib.Dec.{ltb}
 use lib.ListN.{length}
 use Rattle.layout.specs.declared.Refusal.TheVariants as refusal
 use Rattle.layout.specs.Layout.{offset_at}
+use Rattle.layout.specs.declared.Refusal.TheVariants as refusal
 use Rattle.card.specs.inner.Cards.{CardFacts, card_with}
 use Rattle.health.specs.Health.{refuses_erase, refuses_program}
 use Rattle.device.specs.Device.{stored, wiped}
@@ -25,7 +26,6 @@ use Rattle.trials.specs.Trial.{Trial, Ending, Whole, Fault, ends, whole, taken_b
 use Rattle.trials.specs.Loop.{Took, Block, None, Bad, Flash, WriteOut, write_by, Candidate}
 use Rattle.trials.proofs.Laws.{at, taken_all, taken_none, taken_empty, done_law, none_law, bad_law, passed_law, whole_law, refused_law, fault_law, try_at}
 use Rattle.trials.proofs.Falls.{Falls}
-use Rattle.grow.specs.declared.Growth.TheVariants.{Refused as refused}
 use Rattle.grow.specs.Setting.{tested_of}
 use Rattle.grow.specs.Growth.{growth}
 use Rattle.grow.specs.Extend.{took_of, GrowOut, grow_out, growing, grew_by, extend_of}
@@ -172,6 +172,6 @@ module _ (B N l : ℕ) (health : List ℕ) (t : Table) (w : Lookahead) (head s :
       (sym (grow_same c (window_falls B N l t) head s (omega (arith, x.fits)) (suc w.ckpoint) (suc w.ckpoint) img w x.ready.card x.ready.window
       (omega arith) (omega arith)))
 
-  pub extend_refused : extend_tested B N l (length img) health t w s ≡ false → whole_extend ≡ grow_out refused img w
+  pub extend_refused : extend_tested B N l (length img) health t w s ≡ false → whole_extend ≡ grow_out (Err refusal.Invalid) img w
   unfolding extend_of extend_tested tested_of
   extend_refused e = rw (extend_of, e)

@@ -8,9 +8,6 @@ use borrow.Author.Tests.{leb-true, not-true, not-false}
 use lib.Dec.{leb}
 use lib.ListN.{length}
 use Rattle.layout.specs.Numbers.{size_max}
-use Rattle.layout.specs.inner.Served.{geometry}
-use Rattle.card.specs.Card.{good_card}
-use Rattle.card.proofs.Cards.{card}
 use Rattle.health.specs.Health.{health_ok}
 use Rattle.health.proofs.Health.{healthy}
 use Rattle.files.specs.declared.Table.{Table}
@@ -18,7 +15,6 @@ use Rattle.files.specs.Table.{table_ok}
 use Rattle.window.specs.declared.Lookahead.{Lookahead}
 use Rattle.window.specs.Value.{lookahead_fits, valid_of}
 use Rattle.window.specs.inner.Facts.{scope}
-use Rattle.window.proofs.Valid.{looks}
 use Rattle.alloc.proofs.Tested.{ready}
 use Rattle.grow.specs.Setting.{tested_of}
 use Rattle.grow.specs.inner.Extend.{extend_tested, Extending}
@@ -30,38 +26,10 @@ held {r} e h = sym e ∙ not-false r h
 pub fails : {r x : Bool} → r ≡ x → not r ≡ true → x ≡ false
 fails {r} e h = sym e ∙ not-true r h
 
--- behind the test of L
-pub lookahead_le : (B N l len : ℕ) → good_card (geometry B N) len ≡ true → lookahead_fits l ≡ true → l ≤ 64
-lookahead_le B N l len a e = let k = card B N len a in (looks N l k.some k.few e).l_le
-
-module _ (B N l len : ℕ) (health : List ℕ) (t : Table) (w : Lookahead) (s : ℕ) where
-  pub no_card : good_card (geometry B N) len ≡ false → false ≡ extend_tested B N l len health t w s
-  unfolding extend_tested tested_of
-  no_card e = rw (extend_tested, tested_of, e)
-
-  module _ (a : good_card (geometry B N) len ≡ true) where
-    pub no_health : health_ok health N ≡ false → false ≡ extend_tested B N l len health t w s
-    unfolding extend_tested tested_of
-    no_health e = rw (extend_tested, tested_of, a, e)
-
-    module _ (b : health_ok health N ≡ true) where
-      pub no_lookahead : lookahead_fits l ≡ false → false ≡ extend_tested B N l len health t w s
-      unfolding extend_tested tested_of
-      no_lookahead e = rw (extend_tested, tested_of, a, b, e)
-
-      module _ (c : lookahead_fits l ≡ true) where
-        pub no_window : valid_of (scope N l) w ≡ false → false ≡ extend_tested B N l len health t w s
-        unfolding extend_tested tested_of
-        no_window e = rw (extend_tested, tested_of, a, b, c, e)
-
-        module _ (d : valid_of (scope N l) w ≡ true) where
-          pub no_table : table_ok t ≡ false → false ≡ extend_tested B N l len health t w s
-          unfolding extend_tested tested_of
-          no_table e = rw (extend_tested, tested_of, a, b, c, d, e)
-
-          pub last_test : table_ok t ≡ true → leb s size_max ≡ extend_tested B N l len health t w s
-          unfolding extend_tested tested_of
-          last_test e = rw (extend_tested, tested_of, a, b, c, d, e)
+-- the test of L
+pub lookahead_most : (l : ℕ) → lookahead_fits l ≡ true → l ≤ 64
+unfolding lookahead_fits
+lookahead_most l e = leb-true l 64 ((and-eq-true_iff _ _).0 ((and-eq-true_iff _ _).0 e).0).1
 
 -- behind the tests
 pub extending : {B N l : ℕ} {image health : List ℕ} {t : Table} {w : Lookahead} {s : ℕ}

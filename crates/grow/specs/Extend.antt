@@ -1,6 +1,7 @@
 -- `ctz_extend`: one growth with the window as its allocator, for every input (01, "Lookup, visit, grow", "The window", "Refusal numbers").
+use Rattle.std.specs.Prelude.{true, false, ◌&&◌, Result, Ok, Err, List, ℕ, suc, leb}
+use Rattle.layout.specs.declared.Refusal.{Refusal}
 use Rattle.layout.specs.declared.Refusal.TheVariants as refusal
-use Rattle.std.specs.Prelude.{true, false, ◌&&◌, List, ℕ, suc, leb, Ok, Err}
 use Rattle.layout.specs.Numbers.{size_max}
 use Rattle.layout.specs.Layout.{BlockList, offset_at}
 use Rattle.files.specs.declared.Table.{Table}
@@ -9,8 +10,7 @@ use Rattle.window.specs.declared.Lookahead.{Lookahead}
 use Rattle.window.specs.Allocate.{alloc_of, Answer, Allocated}
 use Rattle.alloc.specs.Visits.{seen_in}
 use Rattle.trials.specs.Loop.{Took, Block, None, Bad, Flash, Plan, Writing, Written, NoRoom, Corrupt, WriteOut, write_by}
-use Rattle.grow.specs.declared.Growth.{Growth}
-use Rattle.grow.specs.declared.Growth.TheVariants.{Grown, Full, Damaged, Refused}
+use Rattle.grow.specs.declared.Grown.{Grown}
 use Rattle.grow.specs.Setting.{Setting, State, tested}
 use Rattle.grow.specs.Growth.{growth}
 
@@ -28,6 +28,13 @@ alloc_in c t w img = let a : Allocated = alloc_of (record { N = c.N; L = c.L }) 
 abbrev pub flash : Setting → Table → Flash Lookahead
 flash c t = record { B = c.B; N = c.N; health = c.health; alloc = alloc_in c t }
 
+-- what a growth answers: the new last block, and where in it the next byte goes; or why there is none
+abbrev pub Growth : Type 0
+Growth = Result Grown Refusal
+
+abbrev pub grown_at : ℕ → ℕ → Growth
+grown_at k off = Ok (record { block = k; offset = off })
+
 -- what a growth leaves: its answer, the image, and the allocator
 pub record GrowOut (W : Type 0) : Type 0 where
   pub answer : Growth
@@ -41,11 +48,11 @@ grow_out a img w = record { answer = a; image = img; rest = w }
 abbrev pub growing : ℕ → Plan
 growing size = record { until = suc size; trial = growth; reach = suc }
 
--- the new last block, and where in it the next byte goes
+-- a write's answer as that of a growth
 abbrev pub grew_as : Writing → ℕ → Growth
-grew_as (Written k s) off = Grown k off
-grew_as NoRoom off = Full
-grew_as Corrupt off = Damaged
+grew_as (Written k s) off = grown_at k off
+grew_as NoRoom off = Err refusal.NoSpace
+grew_as Corrupt off = Err refusal.Damaged
 
 abbrev pub grew_by : {W : Type 0} → ℕ → WriteOut W → GrowOut W
 grew_by off o = grow_out (grew_as o.answer off) o.image o.rest
@@ -54,7 +61,7 @@ grew_by off o = grow_out (grew_as o.answer off) o.image o.rest
 unfoldable pub extend_of : Setting → State → BlockList → GrowOut Lookahead
 extend_of c st l =
     elim (tested c st && table_ok st.table && leb l.size size_max) [
-      | false ↦ grow_out Refused st.image st.window
+      | false ↦ grow_out (Err refusal.Invalid) st.image st.window
       | true ↦
           grew_by (offset_at c.B l.size)
           (write_by (flash c st.table) (growing l.size) (suc st.window.ckpoint)

@@ -2,11 +2,11 @@
 ghost use Rattle.grow.specs.inner.Extend.{extend_in, Extending};
 ghost use Rattle.grow.specs.inner.Gives.{GrewGives};
 
-use crate::block::{Linked, try_block};
-use crate::{Grew, Growth};
+use crate::block::try_block;
+use crate::{Failed, Grown};
 use files::Table;
 use layout::Refusal;
-use window::Lookahead;
+use window::{Lookahead, Windowed};
 
 // A growth with the files at hand: blocks are allocated until one takes the erase and the first program.
 pub(crate) fn extend_scan(
@@ -19,7 +19,7 @@ pub(crate) fn extend_scan(
     w: Lookahead,
     head: u32,
     size: u32,
-) -> Grew
+) -> Windowed<Result<Grown, Refusal>>
     requires { Extending b n l image.old health.now t w size }
     ensures { GrewGives
         (extend_in b n l health.now t w head size image.old)
@@ -30,28 +30,25 @@ pub(crate) fn extend_scan(
         let took = alloc::alloc_in(b, n, l, &image[..], t, window);
         window = took.window;
         match took.answer {
-            Ok(k) => {
-                let linked = try_block(image, health, b, n, k, head, size);
-                match linked {
-                    Linked::Done(growth) => {
-                        return Grew {
-                            answer: growth,
-                            window: window,
-                        };
-                    }
-                    Linked::Spoiled => {}
+            Ok(k) => match try_block(image, health, b, n, k, head, size) {
+                Ok(grown) => {
+                    return Windowed {
+                        answer: Ok(grown),
+                        window,
+                    };
                 }
-            }
-            Err(Refusal::NoSpace) => {
-                return Grew {
-                    answer: Growth::Full,
-                    window: window,
-                };
-            }
-            Err(_) => {
-                return Grew {
-                    answer: Growth::Damaged,
-                    window: window,
+                Err(Failed::Refused(refusal)) => {
+                    return Windowed {
+                        answer: Err(refusal),
+                        window,
+                    };
+                }
+                Err(Failed::Spoiled) => {}
+            },
+            Err(refusal) => {
+                return Windowed {
+                    answer: Err(refusal),
+                    window,
                 };
             }
         }
@@ -69,7 +66,7 @@ fn extend_rest(
     w: Lookahead,
     head: u32,
     size: u32,
-) -> Grew
+) -> Windowed<Result<Grown, Refusal>>
     requires { Extending b n l image.old health.now t w size }
     ensures { GrewGives
         (extend_in b n l health.now t w head size image.old)
@@ -89,7 +86,7 @@ pub fn extend_in(
     w: Lookahead,
     head: u32,
     size: u32,
-) -> Grew
+) -> Windowed<Result<Grown, Refusal>>
     requires { Extending b n l image.old health.now t w size }
     ensures { GrewGives
         (extend_in b n l health.now t w head size image.old)
@@ -102,16 +99,16 @@ pub fn extend_in(
             if health[k as usize] != 0 {
                 return extend_rest(b, n, l, image, health, t, w, head, size);
             }
-            let linked = try_block(image, health, b, n, k, head, size);
-            match linked {
-                Linked::Done(growth) => Grew {
-                    answer: growth,
-                    window: window,
+            match try_block(image, health, b, n, k, head, size) {
+                Ok(grown) => Windowed {
+                    answer: Ok(grown),
+                    window,
                 },
-                Linked::Spoiled => Grew {
-                    answer: Growth::Refused,
-                    window: window,
+                Err(Failed::Refused(refusal)) => Windowed {
+                    answer: Err(refusal),
+                    window,
                 },
+                Err(Failed::Spoiled) => unreachable!(),
             }
         }
         None => extend_rest(b, n, l, image, health, t, w, head, size),

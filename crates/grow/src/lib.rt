@@ -5,35 +5,63 @@ pub mod attempts;
 mod block;
 
 ghost use Rattle.std.specs.Prelude.{◌≡◌};
+ghost use Rattle.grow.specs.declared.Failed.TheVariants as Failed;
+ghost use Rattle.grow.specs.Setting.{tested_of};
 ghost use Rattle.grow.specs.Extend.{extend_of};
+ghost use Rattle.grow.specs.inner.Setting.{setting};
 ghost use Rattle.grow.specs.inner.Extend.{extend_tested};
 ghost use Rattle.grow.specs.inner.Gives.{GrewGives};
 
 use attempts::extend_scan;
+use device::Spoiled;
 use files::Table;
-use layout::Geometry;
-use window::Lookahead;
+use layout::{Geometry, Refusal};
+use window::{Lookahead, Windowed};
 
-// What a growth answers.
-#[derive(Clone, Copy)]
-pub enum Growth {
-    // The new last block, and where in it the next byte goes.
-    Grown { block: u32, offset: u32 },
-    // No block is left: -28.
-    Full,
-    // A block number that is not below the block count: -84.
-    Damaged,
-    // -22.
-    Refused,
+// The new last block of a list, and where in it the next byte goes.
+#[derive(Clone, Copy, Debug, PartialEq, Eq)]
+pub struct Grown {
+    pub block: u32,
+    pub offset: u32,
 }
 
-#[derive(Clone, Copy)]
-pub struct Grew {
-    pub answer: Growth,
-    pub window: Lookahead,
+// Why a try with one block comes to nothing.
+#[derive(Clone, Copy, Debug, PartialEq, Eq)]
+pub enum Failed {
+    // The block refuses its erase or first program, and another one may be tried.
+    Spoiled,
+    Refused(Refusal),
 }
 
-// Whether a growth is not refused: geometry and slices, L, window and table, size.
+impl From<Spoiled> for Failed {
+    ghost from_gives = { λ _ e. e ≡ Failed.Spoiled };
+
+    fn from(_spoiled: Spoiled) -> Failed {
+        Failed::Spoiled
+    }
+}
+
+impl From<Refusal> for Failed {
+    ghost from_gives = { λ refusal e. e ≡ Failed.Refused refusal };
+
+    fn from(refusal: Refusal) -> Failed {
+        Failed::Refused(refusal)
+    }
+}
+
+// Whether a call that writes passes its first tests: geometry and slices, health bytes, L, and the window.
+#[tactic(auto, using(crate::proofs::Tests::lookahead_most), unfolding(crate::specs::Setting::tested_of))]
+pub fn valid_setting(g: Geometry, l: u32, len: usize, health: &[u8], w: Lookahead) -> bool
+    ensures { result ≡ tested_of (setting g.block_size g.block_count l health.now) w len }
+{
+    card::good_card(g, len)
+        && health::good_health(health, g.block_count)
+        && window::valid_lookahead(l)
+        && window::valid_window(w, g.block_count, l)
+}
+
+// Whether a growth is not refused: the first tests, then table and size.
+#[tactic(auto, unfolding(crate::specs::inner::Extend::extend_tested))]
 fn valid_extend(
     g: Geometry,
     l: u32,
@@ -45,23 +73,7 @@ fn valid_extend(
 ) -> bool
     ensures { result ≡ extend_tested g.block_size g.block_count l len health.now t w size }
 {
-    let n = g.block_count;
-    if !card::good_card(g, len) {
-        return false;
-    }
-    if !health::good_health(health, n) {
-        return false;
-    }
-    if !window::valid_lookahead(l) {
-        return false;
-    }
-    if !window::valid_window(w, n, l) {
-        return false;
-    }
-    if !files::valid_table(t) {
-        return false;
-    }
-    size <= Geometry::FILE_MAX
+    valid_setting(g, l, len, health, w) && files::valid_table(t) && size <= Geometry::FILE_MAX
 }
 
 // The next last block of the list (head, size), for every input: allocated, erased, and linked or filled with the last block's bytes. Refused: all as it came.
@@ -74,7 +86,7 @@ pub fn ctz_extend(
     w: Lookahead,
     head: u32,
     size: u32,
-) -> Grew
+) -> Windowed<Result<Grown, Refusal>>
     ensures { GrewGives
         (extend_of
         (record { B = g.block_size; N = g.block_count; L = l; health = health.now })
@@ -95,8 +107,8 @@ pub fn ctz_extend(
             size,
         );
     }
-    Grew {
-        answer: Growth::Refused,
+    Windowed {
+        answer: Err(Refusal::Invalid),
         window: w,
     }
 }

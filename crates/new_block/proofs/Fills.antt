@@ -6,9 +6,12 @@ use Prim.Native.Nat.{ℕ, ◌+◌, ◌-◌, min, max, ◌≤◌, ◌<◌}
 use native.Mathlib.Nat.{min-le_right}
 use native.Mathlib.Omega.{arith}
 use borrow.Author.Tests.{leb-true, leb-false}
-use lib.Dec.{leb}
+use lib.Dec.{leb, ltb}
 use lib.ListN.{length, take, drop, replicate, length-drop, drop_of_length-le}
 use lib.Seq.{take_all, take-nil}
+use Rattle.std.specs.Prelude.{Ok, Err}
+use Rattle.layout.specs.declared.Refusal.{Refusal}
+use Rattle.layout.specs.declared.Refusal.TheVariants.{Damaged}
 use Rattle.layout.specs.Numbers.{size_max}
 use Rattle.health.specs.Health.{refuses_program}
 use Rattle.device.specs.Device.{stored}
@@ -17,13 +20,12 @@ use Rattle.device.specs.inner.Steps.{Answer, done, refused, program_of, StepGive
 use Rattle.device.proofs.Blanks.{blank_part}
 use Rattle.device.proofs.Steps.{gives_refused, step_on, told_done, told_refused}
 use Rattle.files.specs.declared.Entry.{Entry}
+use Rattle.grow.specs.declared.Failed.TheVariants as failed
 use Rattle.grow.specs.inner.Attempt.{Linking}
 use Rattle.grow.proofs.Rooms.{room_of}
 use Rattle.old_list.specs.Write.{Job, over, new, Look, job_of}
 use Rattle.old_list.specs.inner.Lookups.{look_in}
-use Rattle.new_block.specs.declared.Filled.{Filled}
-use Rattle.new_block.specs.declared.Filled.TheVariants.{Spoiled}
-use Rattle.new_block.specs.inner.Fill.{front_of, FillOut, share, tail_of, fill_of, FillGives, Tailing, Filling, fronted}
+use Rattle.new_block.specs.inner.Fill.{Filled, lost, front_of, FillOut, share, tail_of, fill_of, FillGives, Tailing, Filling, fronted, tailed}
 use Rattle.new_block.proofs.Blanks.{front_blank}
 
 -- ---- a run of the data, cut to what there is
@@ -95,7 +97,7 @@ share_ends : (a b s r m : ℕ) → m ≡ min (max a b - s) r → s < max a b →
 share_ends a b s r m e l = omega arith
 
 module _ (look : List ℕ → ℕ → Look) (health : List ℕ) (B : ℕ) (j : Job) (k off s : ℕ) (img : List ℕ) where
-  pub fill_refused : refuses_program health k ≡ true → fill_of look health B j k off s img ≡ record { answer = Spoiled; image = img }
+  pub fill_refused : refuses_program health k ≡ true → fill_of look health B j k off s img ≡ record { answer = Err failed.Spoiled; image = img }
   unfolding fill_of
   fill_refused e = rw (fill_of, e)
 
@@ -104,6 +106,39 @@ module _ (look : List ℕ → ℕ → Look) (health : List ℕ) (B : ℕ) (j : J
       ≡ tail_of look B k off s (share B j off s) (over j) (fronted B k off s (share B j off s) j.pos j.src img)
   unfolding fill_of
   fill_goes e = rw (fill_of, e)
+
+-- a filling is refused with -84 only
+tail_refusal : (look : List ℕ → ℕ → Look) (B k off s m past : ℕ) (img : List ℕ) (q : Refusal)
+    → (tail_of look B k off s m past img).answer ≡ Err (failed.Refused q) → Damaged ≡ q
+unfolding tail_of
+tail_refusal look B k off s m past img q = go (ltb (past - s) m) (look img (s + (past - s)))
+  where
+    pick : Bool → Look → FillOut
+    pick x y =
+        elim x [
+          | false ↦ record { answer = Ok (s + m); image = img }
+          | true ↦ elim y [
+            | Look.Lost ↦ record { answer = lost; image = img }
+            | Look.Found ob ↦ record { answer = Ok (s + m); image = tailed B k off s m ob past img }
+          ]
+        ]
+
+    go : (x : Bool) (y : Look) → (pick x y).answer ≡ Err (failed.Refused q) → Damaged ≡ q
+    go false y e = let z : ◌≡◌ {A = ℕ} 0 1 = cc in absurd (omega arith)
+    go true Look.Lost e = cc
+    go true (Look.Found ob) e = let z : ◌≡◌ {A = ℕ} 0 1 = cc in absurd (omega arith)
+
+pub fill_refusal : (look : List ℕ → ℕ → Look) (health : List ℕ) (B : ℕ) (j : Job) (k off s : ℕ) (img : List ℕ) (q : Refusal)
+    → (fill_of look health B j k off s img).answer ≡ Err (failed.Refused q) → Damaged ≡ q
+fill_refusal look health B j k off s img q a = go (refuses_program health k) refl
+  where
+    go : (x : Bool) → refuses_program health k ≡ x → Damaged ≡ q
+    go true e =
+        let n : Err failed.Spoiled ≡ Err (failed.Refused q) = sym (ap (λ (o : FillOut). o.answer) (fill_refused look health B j k off s img e)) ∙ a in
+        let z : ◌≡◌ {A = ℕ} 0 1 = cc in
+        absurd (omega arith)
+    go false e =
+        tail_refusal look B k off s (share B j off s) (over j) _ q (sym (ap (λ (o : FillOut). o.answer) (fill_goes look health B j k off s img e)) ∙ a)
 
 -- the same by the code's numbers: m is the block's share
 module _ {B N : ℕ} {e : Entry} {pos : ℕ} {src : List ℕ} {k off s : ℕ} {image health : List ℕ} (f : Filling B N e pos src k off s image health)
@@ -120,10 +155,10 @@ module _ {B N : ℕ} {e : Entry} {pos : ℕ} {src : List ℕ} {k off s : ℕ} {i
       (room_of off m image link refl fits, omega (arith, f.fits), blank_part off m (omega arith) (omega (arith, fits)) f.clean)
 
   module _ {r : Answer} {img₁ : List ℕ} (p : StepGives (front_of health B k off s m pos src image) r img₁) where
-    pub fill_spoiled : r ≡ refused → FillGives (fill_of (look_in B N e) health B (job_of e pos src) k off s image) Spoiled img₁
+    pub fill_spoiled : r ≡ refused → FillGives (fill_of (look_in B N e) health B (job_of e pos src) k off s image) (Err failed.Spoiled) img₁
     fill_spoiled x =
         let t = told_refused (refuses_program health k) image (fronted B k off s m pos src image) (sym p.answer ∙ x) in
-        filled Spoiled img₁ (rw (p.image, t.1) (fill_refused (look_in B N e) health B (job_of e pos src) k off s image t.0))
+        filled (Err failed.Spoiled) img₁ (rw (p.image, t.1) (fill_refused (look_in B N e) health B (job_of e pos src) k off s image t.0))
 
     module _ (x : r ≡ done) where
       stores : (refuses_program health k ≡ false) × ((front_of health B k off s m pos src image).image ≡ fronted B k off s m pos src image)

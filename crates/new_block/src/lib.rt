@@ -11,15 +11,8 @@ ghost use Rattle.new_block.specs.inner.Fill.{front_of, tail_of, fill_of, FillGiv
 
 use device::Spoiled;
 use files::Entry;
-use old_list::{Looked, look};
-
-// What filling a new block gives: the size so far, that the block refused, or -84.
-#[derive(Clone, Copy)]
-pub enum Filled {
-    Done(u32),
-    Spoiled,
-    Damaged,
-}
+use grow::Failed;
+use old_list::look;
 
 // The front of the `m` positions from `s` on in block `k`: the gap's zeros, then data.
 fn front(
@@ -67,7 +60,7 @@ fn tail(
     s: u32,
     m: u32,
     past: u32,
-) -> Filled
+) -> Result<u32, Failed>
     requires { Tailing b n e k off s m past image.old health.now }
     ensures { FillGives
         (tail_of (look_in b n e) b k off s m past image.old)
@@ -75,20 +68,15 @@ fn tail(
 {
     let at = past.saturating_sub(s);
     if m <= at {
-        return Filled::Done(s + m);
+        return Ok(s + m);
     }
-    let old = look(b, n, &image[..], e, s + at);
-    match old {
-        Looked::Block(block) => {
-            // The block took its front, so it takes this too.
-            programs::program_copy(image, health, b, k, off + at, block, off + at, m - at).unwrap();
-            Filled::Done(s + m)
-        }
-        Looked::Lost => Filled::Damaged,
-    }
+    let block = look(b, n, &image[..], e, s + at)?;
+    // The block took its front, so it takes this too.
+    programs::program_copy(image, health, b, k, off + at, block, off + at, m - at).unwrap();
+    Ok(s + m)
 }
 
-// Block `k` filled from position `s` on: gap and data, then the tail of the old file.
+// Block `k` filled from position `s` on: gap and data, then the tail of the old file. It gives the size so far.
 pub fn fill_block(
     image: &mut [u8],
     health: &[u8],
@@ -100,7 +88,7 @@ pub fn fill_block(
     k: u32,
     off: u32,
     s: u32,
-) -> Filled
+) -> Result<u32, Failed>
     requires { Filling b n e pos «data».now k off s image.old health.now }
     ensures { FillGives
         (fill_of (look_in b n e) health.now b (job_of e pos «data».now) k off s image.old)
@@ -109,8 +97,6 @@ pub fn fill_block(
     let past = pos + data.len() as u32;
     let new = e.size.max(past);
     let m = (new - s).min(b - off);
-    match front(image, health, b, k, off, s, m, pos, data) {
-        Ok(()) => tail(image, health, b, n, e, k, off, s, m, past),
-        Err(Spoiled) => Filled::Spoiled,
-    }
+    front(image, health, b, k, off, s, m, pos, data)?;
+    tail(image, health, b, n, e, k, off, s, m, past)
 }

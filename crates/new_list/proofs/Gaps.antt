@@ -11,9 +11,8 @@ use lib.ListN.{take, drop, length-replicate}
 use Rattle.health.specs.Health.{refuses_program}
 use Rattle.device.specs.Device.{stored}
 use Rattle.trials.specs.Loop.{Took, WriteOut}
-use Rattle.grow.specs.declared.Growth.{Growth}
-use Rattle.grow.specs.declared.Growth.TheVariants as growth
-use Rattle.grow.specs.Extend.{GrowOut}
+use Rattle.std.specs.Prelude.{Ok, Err}
+use Rattle.grow.specs.Extend.{Growth, GrowOut}
 use Rattle.grow.specs.inner.Grow.{grow_of}
 use Rattle.old_list.specs.Write.{Job, Look, zeros, new, kept, over, wanted, looked, first_head}
 use Rattle.new_block.specs.inner.Fill.{fronted}
@@ -75,10 +74,8 @@ unfolding grown_of
 grown_same o go go' h = by o.answer refl
   where
     by : (a : Growth) → o.answer ≡ a → grown_of o go ≡ grown_of o go'
-    by (growth.Grown k off) e = rw (grown_of, e) (h k off)
-    by growth.Full e = rw (grown_of, e)
-    by growth.Damaged e = rw (grown_of, e)
-    by growth.Refused e = rw (grown_of, e)
+    by (Ok g) e = rw (grown_of, e) (h g.block g.offset)
+    by (Err r) e = rw (grown_of, e)
 
 either_same : {A : Type 0} (t : Bool) (a a' b b' : A) → a ≡ a' → b ≡ b' → ◌≡◌ {A = A} (elim t [ true ↦ a | false ↦ b ]) (elim t [ true ↦ a' | false ↦ b' ])
 either_same true a a' b b' p q = p

@@ -6,7 +6,10 @@ use Prim.Native.Nat.{ℕ, ◌+◌, ◌-◌, min, ◌≤◌}
 use native.Mathlib.Omega.{arith}
 use lib.Dec.{ltb}
 use lib.ListN.{length}
+use Rattle.std.specs.Prelude.{Ok, Err}
 use Rattle.layout.specs.Layout.{index_at, start}
+use Rattle.layout.specs.declared.Refusal.{Refusal}
+use Rattle.layout.specs.declared.Refusal.TheVariants.{Damaged}
 use Rattle.ctz.specs.inner.Bounds.{ListFacts}
 use Rattle.files.specs.declared.Entry.{Entry}
 use Rattle.files.specs.declared.Table.{Table}
@@ -15,14 +18,10 @@ use Rattle.window.specs.Value.{checkpoint_of}
 use Rattle.window.proofs.Kept.{checkpoint_valid}
 use Rattle.trials.specs.Loop.{Corrupt}
 use Rattle.grow.specs.inner.Extend.{window_alloc}
-use Rattle.old_list.specs.declared.Looked.{Looked}
-use Rattle.old_list.specs.declared.Looked.TheVariants as looked-as
 use Rattle.old_list.specs.Write.{Job, Look, over, kept, zeros, when, wanted, looked, first_head, job_of}
 use Rattle.old_list.specs.inner.Lookups.{looked_of, kept_wanted, tail_wanted, found_if, kept_of, look_in}
 use Rattle.old_list.proofs.Looks.{looked_append, told_block, told_lost}
-use Rattle.new_list.specs.declared.Writing.TheVariants as writing
-use Rattle.new_list.specs.declared.Wrote.{Wrote}
-use Rattle.new_list.specs.inner.Put.{on_by, on_from, WroteGives, Putting, puts}
+use Rattle.new_list.specs.inner.Put.{Wrote, head_of, on_by, on_from, WroteGives, Putting, puts}
 use Rattle.new_list.specs.inner.Write.{put_of}
 use Rattle.new_list.proofs.Goes.{wrote}
 use Rattle.new_list.proofs.Gaps.{put_as_gap}
@@ -38,23 +37,44 @@ module _ (look : List ℕ → ℕ → Look) (img : List ℕ) (B : ℕ) where
       three : (a b c : List ℕ) → looked (look img) (a ++ (b ++ c)) ≡ (looked (look img) (a ++ b) && looked (look img) c)
       three a b c = ap (looked (look img)) (sym (append_assoc a b c)) ∙ looked_append look img (a ++ b) c
 
-  -- what the head of the first growth tells
-  pub head_found : (q h : ℕ) → kept_of look B img q ≡ Look.Found h → (looked (look img) (kept_wanted B q) ≡ true) × (first_head (look img) q ≡ h)
-  unfolding kept_of
-  head_found q h e = go (looked (look img) (kept_wanted B q)) refl e
-    where
-      go : (x : Bool) → looked (look img) (kept_wanted B q) ≡ x → found_if x (first_head (look img) q) ≡ Look.Found h
-          → (looked (look img) (kept_wanted B q) ≡ true) × (first_head (look img) q ≡ h)
-      go true f e = (f, cc)
-      go false f e = let z : ◌≡◌ {A = ℕ} 0 1 = cc in absurd (omega arith)
+  -- ---- the lookups
 
-  pub head_missed : (q : ℕ) → kept_of look B img q ≡ Look.Lost → looked (look img) (kept_wanted B q) ≡ false
-  unfolding kept_of
-  head_missed q e = go (looked (look img) (kept_wanted B q)) refl e
-    where
-      go : (x : Bool) → looked (look img) (kept_wanted B q) ≡ x → found_if x (first_head (look img) q) ≡ Look.Lost → looked (look img) (kept_wanted B q) ≡ false
-      go true f e = let z : ◌≡◌ {A = ℕ} 0 1 = cc in absurd (omega arith)
-      go false f e = f
+  lost_at : (x : Bool) (h : ℕ) → found_if x h ≡ Look.Lost → x ≡ false
+  lost_at true h e = let z : ◌≡◌ {A = ℕ} 0 1 = cc in absurd (omega arith)
+  lost_at false h e = refl
+
+  found_at : (x : Bool) (h k : ℕ) → found_if x h ≡ Look.Found k → (x ≡ true) × (h ≡ k)
+  found_at true h k e = (refl, cc)
+  found_at false h k e = let z : ◌≡◌ {A = ℕ} 0 1 = cc in absurd (omega arith)
+
+  module _ (q over' old : ℕ) where
+    -- a kept block is lost
+    pub head_lost : kept_of look B img q ≡ Look.Lost → Err Damaged ≡ head_of look B img q over' old
+    unfolding kept_of head_of
+    head_lost e = rw (head_of, lost_at _ _ e)
+
+    module _ {h : ℕ} (e : kept_of look B img q ≡ Look.Found h) where
+      -- a block of the tail is lost
+      pub head_tailless : looked (look img) (tail_wanted B over' old) ≡ false → Err Damaged ≡ head_of look B img q over' old
+      unfolding kept_of head_of
+      head_tailless f = let k = found_at _ _ h e in rw (head_of, k.0, f)
+
+      -- all is found
+      pub head_found : looked (look img) (tail_wanted B over' old) ≡ true → Ok h ≡ head_of look B img q over' old
+      unfolding kept_of head_of
+      head_found f = let k = found_at _ _ h e in rw (head_of, k.0, f, k.1)
+
+  -- what the lookups tell
+  head_whole : (j : Job) → head_of look B img (kept j) (over j) j.old ≡ looked_of (found_if (looked (look img) (wanted B j)) (first_head (look img) (kept j)))
+  unfolding head_of
+  head_whole j = rw (head_of, wanted_looked j)
+
+  pub none_found : (j : Job) (r : Refusal) → head_of look B img (kept j) (over j) j.old ≡ Err r → (looked (look img) (wanted B j) ≡ false) × (Damaged ≡ r)
+  none_found j r e = let t = told_lost _ r (sym (head_whole j) ∙ e) in (lost_at _ _ t.0, t.1)
+
+  pub all_found : (j : Job) (h : ℕ) → head_of look B img (kept j) (over j) j.old ≡ Ok h
+      → (looked (look img) (wanted B j) ≡ true) × (first_head (look img) (kept j) ≡ h)
+  all_found j h e = found_at _ _ h (told_block _ h (sym (head_whole j) ∙ e))
 
 module _ {B N l : ℕ} {img health : List ℕ} {t : Table} {w : Lookahead} {e : Entry} {pos : ℕ} {src : List ℕ}
     (x : Putting B N l img health t w e pos src) where
@@ -73,38 +93,22 @@ module _ {B N l : ℕ} {img health : List ℕ} {t : Table} {w : Lookahead} {e : 
           fits = x.fits;
         })
 
-    module _ {q : ℕ} (eq : q ≡ min pos e.size) {r : Looked} (g : r ≡ looked_of (kept_of (look_in B N e) B img q)) where
-      -- a kept block is lost
-      pub put_lost : r ≡ looked-as.Lost → WroteGives (puts B N l health t e pos src w img) (record { answer = writing.Corrupt; window = v }) img
-      unfolding puts put_of
-      put_lost a =
-          let k : looked ((look_in B N e) img) (kept_wanted B (kept (job_of e pos src))) ≡ false
-          = rw eq at (head_missed (look_in B N e) img B q (told_lost _ (sym g ∙ a))) in
-          wrote Corrupt img v (rw (puts, put_of, wanted_looked (look_in B N e) img B (job_of e pos src), k, c))
+    -- a block is lost
+    pub put_lost : (r : Refusal) → head_of (look_in B N e) B img (min pos e.size) (pos + length src) e.size ≡ Err r
+        → WroteGives (puts B N l health t e pos src w img) (record { answer = Err r; window = v }) img
+    unfolding puts put_of
+    put_lost r a =
+        let k = none_found (look_in B N e) img B (job_of e pos src) r a in
+        rw (← k.1) (wrote Corrupt img v (rw (puts, put_of, k.0, c)))
 
-      module _ {h : ℕ} (a : r ≡ looked-as.Block h) where
-        kept_all : (looked ((look_in B N e) img) (kept_wanted B (kept (job_of e pos src))) ≡ true) × (first_head ((look_in B N e) img) (kept (job_of e pos src)) ≡ h)
-        kept_all = rw eq at (head_found (look_in B N e) img B q h (told_block _ h (sym g ∙ a)))
-
-        -- a block of the tail is lost
-        pub put_tailless : {y : Bool} → y ≡ looked ((look_in B N e) img) (tail_wanted B (pos + length src) e.size) → y ≡ false
-            → WroteGives (puts B N l health t e pos src w img) (record { answer = writing.Corrupt; window = v }) img
-        unfolding puts put_of
-        put_tailless z f =
-            let k = kept_all.0 in
-            let m : looked ((look_in B N e) img) (tail_wanted B (pos + length src) e.size) ≡ false = sym z ∙ f in
-            wrote Corrupt img v (rw (puts, put_of, wanted_looked (look_in B N e) img B (job_of e pos src), k, m, c))
-
-        -- all is found
-        pub put_goes : {y : Bool} → y ≡ looked ((look_in B N e) img) (tail_wanted B (pos + length src) e.size) → y ≡ true
-            → {o : Wrote} {after : List ℕ} → WroteGives (on_from B N l health t e pos src v h q img) o after
-            → WroteGives (puts B N l health t e pos src w img) o after
-        unfolding puts put_of on_by
-        put_goes z f {o} {after} d =
-            let k = kept_all.0 in
-            let m : looked ((look_in B N e) img) (tail_wanted B (pos + length src) e.size) ≡ true = sym z ∙ f in
-            let u = kept_all.1 in
-            rw (puts, put_of, wanted_looked (look_in B N e) img B (job_of e pos src), k, m, u) (rw (c, eq) at d)
+    -- all is found
+    pub put_goes : {q h : ℕ} → q ≡ min pos e.size → head_of (look_in B N e) B img (min pos e.size) (pos + length src) e.size ≡ Ok h
+        → {o : Wrote} {after : List ℕ} → WroteGives (on_from B N l health t e pos src v h q img) o after
+        → WroteGives (puts B N l health t e pos src w img) o after
+    unfolding puts put_of on_by
+    put_goes {q} {h} eq a {o} {after} d =
+        let k = all_found (look_in B N e) img B (job_of e pos src) h a in
+        rw (puts, put_of, k.0, k.1) (rw (c, eq) at d)
 
 -- a growing truncate's zeros are a gap
 pub puts_as_gap : (B N l : ℕ) (health : List ℕ) (t : Table) (e : Entry) (size : ℕ) (w : Lookahead) (img : List ℕ) → e.size ≤ size

@@ -5,19 +5,25 @@ use mathlib.Core.List.{List}
 use Prim.Native.Nat.{ℕ, suc, ◌+◌, ◌-◌, ◌≤◌, ◌<◌}
 use borrow.Author.Tests.{lt-ltb, le-ltb}
 use lib.Dec.{ltb}
+use Rattle.std.specs.Prelude.{Ok, Err}
+use Rattle.layout.specs.declared.Refusal.{Refusal}
 use Rattle.health.specs.Health.{refuses_program}
-use Rattle.trials.specs.Loop.{Took, Written, NoRoom, Corrupt, WriteOut, write_out}
-use Rattle.grow.specs.declared.Growth.TheVariants as growth
+use Rattle.trials.specs.Loop.{Took, Written, Corrupt, WriteOut, write_out}
+use Rattle.grow.specs.declared.Failed.TheVariants as failed
+use Rattle.grow.specs.Extend.{grown_at}
 use Rattle.grow.specs.inner.Grow.{grow_of}
 use Rattle.old_list.specs.Write.{Job, new, over, Look}
-use Rattle.new_block.specs.declared.Filled.TheVariants.{Done, Spoiled, Damaged}
 use Rattle.new_block.specs.inner.Fill.{FillOut, share, tail_of, fill_of, fronted}
 use Rattle.new_block.proofs.Fills.{fill_refused, fill_goes}
-use Rattle.new_list.specs.inner.Write.{filled_of, grown_of, write_of}
+use Rattle.new_list.specs.inner.Write.{filled_of, stopped, grown_of, write_of}
 
 -- what follows the filling of a block: the size so far, another block, or -84
 abbrev pub on_fill : {W : Type 0} → FillOut → (ℕ → List ℕ → WriteOut W) → (List ℕ → WriteOut W) → W → WriteOut W
-on_fill o goes again w = elim o.answer [ Done s ↦ goes s o.image | Spoiled ↦ again o.image | Damaged ↦ write_out Corrupt o.image w ]
+on_fill o goes again w =
+    elim o.answer [
+      | Ok s ↦ goes s o.image
+      | Err f ↦ elim f [ failed.Spoiled ↦ again o.image | failed.Refused r ↦ write_out Corrupt o.image w ]
+    ]
 
 module _ {W : Type 0} (look : List ℕ → ℕ → Look) (tries : W → ℕ) (alloc : W → List ℕ → Took W) (m : ℕ) (health : List ℕ) (B N : ℕ) (j : Job)
     (w : W) (h s : ℕ) (img : List ℕ) where
@@ -27,22 +33,12 @@ module _ {W : Type 0} (look : List ℕ → ℕ → Look) (tries : W → ℕ) (al
 
   module _ (l : s < new j) {w₁ : W} {img₁ : List ℕ} (er : (grow_of alloc (suc (tries w)) w health B N h s img).rest ≡ w₁)
       (ei : (grow_of alloc (suc (tries w)) w health B N h s img).image ≡ img₁) where
-    pub write_full : (grow_of alloc (suc (tries w)) w health B N h s img).answer ≡ growth.Full
-        → write_of look tries alloc (suc m) health B N j w h s img ≡ write_out NoRoom img₁ w₁
+    pub write_stopped : (r : Refusal) → (grow_of alloc (suc (tries w)) w health B N h s img).answer ≡ Err r
+        → write_of look tries alloc (suc m) health B N j w h s img ≡ write_out (stopped r) img₁ w₁
     unfolding write_of grown_of
-    write_full e = rw (write_of, lt-ltb s (new j) l, grown_of, e, er, ei)
+    write_stopped r e = rw (write_of, lt-ltb s (new j) l, grown_of, e, er, ei)
 
-    pub write_damaged : (grow_of alloc (suc (tries w)) w health B N h s img).answer ≡ growth.Damaged
-        → write_of look tries alloc (suc m) health B N j w h s img ≡ write_out Corrupt img₁ w₁
-    unfolding write_of grown_of
-    write_damaged e = rw (write_of, lt-ltb s (new j) l, grown_of, e, er, ei)
-
-    pub write_refused : (grow_of alloc (suc (tries w)) w health B N h s img).answer ≡ growth.Refused
-        → write_of look tries alloc (suc m) health B N j w h s img ≡ write_out Corrupt img₁ w₁
-    unfolding write_of grown_of
-    write_refused e = rw (write_of, lt-ltb s (new j) l, grown_of, e, er, ei)
-
-    module _ {k off : ℕ} (e : (grow_of alloc (suc (tries w)) w health B N h s img).answer ≡ growth.Grown k off) where
+    module _ {k off : ℕ} (e : (grow_of alloc (suc (tries w)) w health B N h s img).answer ≡ grown_at k off) where
       spoiled_turn : refuses_program health k ≡ true
           → write_of look tries alloc (suc m) health B N j w h s img ≡ write_of look tries alloc m health B N j w₁ h s img₁
       unfolding write_of grown_of
@@ -79,14 +75,14 @@ module _ {W : Type 0} (look : List ℕ → ℕ → Look) (tries : W → ℕ) (al
           go false p = rw (fill_goes look health B j k off s img₁ p) (filled_turn p ∙ tail_turn _)
 
       module _ {img₂ : List ℕ} (ef : (fill_of look health B j k off s img₁).image ≡ img₂) where
-        pub write_goes : (s' : ℕ) → (fill_of look health B j k off s img₁).answer ≡ Done s'
+        pub write_goes : (s' : ℕ) → (fill_of look health B j k off s img₁).answer ≡ Ok s'
             → write_of look tries alloc (suc m) health B N j w h s img ≡ write_of look tries alloc m health B N j w₁ k s' img₂
         write_goes s' f = fills ∙ rw (f, ef)
 
-        pub write_spoiled : (fill_of look health B j k off s img₁).answer ≡ Spoiled
+        pub write_spoiled : (fill_of look health B j k off s img₁).answer ≡ Err failed.Spoiled
             → write_of look tries alloc (suc m) health B N j w h s img ≡ write_of look tries alloc m health B N j w₁ h s img₂
         write_spoiled f = fills ∙ rw (f, ef)
 
-        pub write_lost : (fill_of look health B j k off s img₁).answer ≡ Damaged
+        pub write_lost : (r : Refusal) → (fill_of look health B j k off s img₁).answer ≡ Err (failed.Refused r)
             → write_of look tries alloc (suc m) health B N j w h s img ≡ write_out Corrupt img₂ w₁
-        write_lost f = fills ∙ rw (f, ef)
+        write_lost r f = fills ∙ rw (f, ef)

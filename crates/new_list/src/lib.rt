@@ -1,42 +1,20 @@
 // A write by growths, each new block filled before the next growth.
 #![tactic(auto)]
 
-ghost use Rattle.std.specs.Prelude.{◌≡◌};
-ghost use Rattle.new_list.specs.inner.Put.{ended_of, on_from, WroteGives, Putting, puts};
+ghost use Rattle.std.specs.Prelude.{◌≡◌, min, ◌≤◌, length};
+ghost use Rattle.layout.specs.Numbers.{size_max};
+ghost use Rattle.ctz.specs.inner.Bounds.{ListFacts};
+ghost use Rattle.old_list.specs.inner.Lookups.{look_in};
+ghost use Rattle.new_list.specs.inner.Put.{head_of, on_from, WroteGives, Putting, puts};
 
 use files::{Entry, Table};
-use grow::Growth;
-use new_block::{Filled, fill_block};
-use old_list::{Looked, first_head, tail_looked};
-use window::Lookahead;
+use grow::Failed;
+use layout::{BlockList, Refusal};
+use new_block::fill_block;
+use old_list::{first_head, tail_looked};
+use window::{Lookahead, Windowed};
 
-// What a write gives, before the table changes.
-#[derive(Clone, Copy)]
-pub enum Writing {
-    Written { head: u32, size: u32 },
-    // -28.
-    NoRoom,
-    // -84.
-    Corrupt,
-}
-
-#[derive(Clone, Copy)]
-pub struct Wrote {
-    pub answer: Writing,
-    pub window: Lookahead,
-}
-
-// What a write gives at its end.
-fn ended(answer: Writing, w: Lookahead) -> Wrote
-    ensures { result ≡ ended_of answer w }
-{
-    Wrote {
-        answer: answer,
-        window: w,
-    }
-}
-
-// The growths of a write from the list (head, size) on, each new block filled before the next growth.
+// The growths of a write from `list` on, each new block filled before the next growth.
 fn write_on(
     b: u32,
     n: u32,
@@ -44,56 +22,76 @@ fn write_on(
     image: &mut [u8],
     health: &[u8],
     t: Table,
-    w: Lookahead,
+    mut window: Lookahead,
     e: Entry,
     pos: u32,
     data: &[u8],
-    head: u32,
-    size: u32,
-) -> Wrote
-    requires { Putting b n l image.old health.now t w e pos «data».now }
+    mut list: BlockList,
+) -> Windowed<Result<BlockList, Refusal>>
+    requires { Putting b n l image.old health.now t window e pos «data».now }
     ensures { WroteGives
-        (on_from b n l health.now t e pos «data».now w head size image.old)
+        (on_from b n l health.now t e pos «data».now window list.head list.size image.old)
         result image.new }
 {
     let over = pos + data.len() as u32;
     let new = e.size.max(over);
-    let mut window = w;
-    let mut h = head;
-    let mut s = size;
-    while s < new {
-        let grew = grow::attempts::extend_in(b, n, l, image, health, t, window, h, s);
+    while list.size < new {
+        let grew = grow::attempts::extend_in(
+            b, n, l, image, health, t, window, list.head, list.size,
+        );
         window = grew.window;
-        let answer = grew.answer;
-        match answer {
-            Growth::Grown { block, offset } => {
-                let filled = fill_block(image, health, b, n, e, pos, data, block, offset, s);
-                match filled {
-                    Filled::Done(so_far) => {
-                        h = block;
-                        s = so_far;
-                    }
-                    Filled::Spoiled => {}
-                    Filled::Damaged => {
-                        return ended(Writing::Corrupt, window);
+        match grew.answer {
+            Ok(grown) => {
+                match fill_block(
+                    image,
+                    health,
+                    b,
+                    n,
+                    e,
+                    pos,
+                    data,
+                    grown.block,
+                    grown.offset,
+                    list.size,
+                ) {
+                    Ok(size) => list = BlockList {
+                        head: grown.block,
+                        size,
+                    },
+                    Err(Failed::Spoiled) => {}
+                    Err(Failed::Refused(refusal)) => {
+                        return Windowed {
+                            answer: Err(refusal),
+                            window,
+                        };
                     }
                 }
             }
-            Growth::Full => {
-                return ended(Writing::NoRoom, window);
-            }
-            Growth::Damaged => {
-                return ended(Writing::Corrupt, window);
-            }
-            Growth::Refused => {
-                return ended(Writing::Corrupt, window);
+            Err(refusal) => {
+                return Windowed {
+                    answer: Err(refusal),
+                    window,
+                };
             }
         }
     }
-    ended(Writing::Written { head: h, size: s }, window)
+    Windowed {
+        answer: Ok(list),
+        window,
+    }
 }
 
-// A write of at least one byte, or a gap: the checkpoint, the lookups, then the growths.
+// The head of the first growth, once every block that the write copies is found.
+fn looked_up(b: u32, n: u32, image: &[u8], e: Entry, pos: u32, over: u32) -> Result<u32, Refusal>
+    requires { ListFacts b n e.size (length image.now) × (over ≤ size_max) }
+    ensures { result ≡ head_of (look_in b n e) b image.now (min pos e.size) over e.size }
+{
+    let head = first_head(b, n, image, e, pos.min(e.size))?;
+    tail_looked(b, n, image, e, over)?;
+    Ok(head)
+}
+
+// A write of at least one byte, or a gap: the checkpoint, the lookups, then the growths. The table is still to change.
 pub fn put(
     b: u32,
     n: u32,
@@ -105,22 +103,24 @@ pub fn put(
     e: Entry,
     pos: u32,
     data: &[u8],
-) -> Wrote
+) -> Windowed<Result<BlockList, Refusal>>
     requires { Putting b n l image.old health.now t w e pos «data».now }
     ensures { WroteGives
         (puts b n l health.now t e pos «data».now w image.old)
         result image.new }
 {
-    let v = window::alloc_ckpoint(w, n);
-    let q = pos.min(e.size);
-    let first = first_head(b, n, &image[..], e, q);
-    match first {
-        Looked::Block(head) => {
-            if tail_looked(b, n, &image[..], e, pos + data.len() as u32) {
-                return write_on(b, n, l, image, health, t, v, e, pos, data, head, q);
-            }
-            ended(Writing::Corrupt, v)
+    let window = window::alloc_ckpoint(w, n);
+    match looked_up(b, n, &image[..], e, pos, pos + data.len() as u32) {
+        Ok(head) => {
+            let kept = BlockList {
+                head,
+                size: pos.min(e.size),
+            };
+            write_on(b, n, l, image, health, t, window, e, pos, data, kept)
         }
-        Looked::Lost => ended(Writing::Corrupt, v),
+        Err(refusal) => Windowed {
+            answer: Err(refusal),
+            window,
+        },
     }
 }

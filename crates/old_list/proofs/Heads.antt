@@ -7,11 +7,12 @@ use native.Mathlib.Numerals.{add-one}
 use native.Mathlib.Omega.{arith}
 use borrow.Author.Tests.{lt-ltb, le-ltb, ltb-true, ltb-false}
 use lib.Dec.{ltb}
+use Rattle.std.specs.Prelude.{Ok, Err}
+use Rattle.layout.specs.declared.Refusal.TheVariants.{Damaged}
 use Rattle.layout.specs.Layout.{index_at, offset_at, start}
 use Rattle.layout.specs.inner.Served.{Served}
 use Rattle.layout.proofs.Places.{index_mono}
 use Rattle.layout.proofs.Served.{served, index_in, index_found}
-use Rattle.old_list.specs.declared.Looked.TheVariants as looked-as
 use Rattle.old_list.specs.Write.{Look, starts, looked, first_head}
 use Rattle.old_list.specs.inner.Lookups.{looked_of, kept_wanted, tail_wanted, kept_of}
 use Rattle.old_list.proofs.Index.{index_within, index_start, start_before, index_some, index_none, start_behind, index_behind}
@@ -21,7 +22,7 @@ module _ (look : List ℕ → ℕ → Look) (img : List ℕ) where
   -- ---- the head of the first growth
 
   module _ (B q : ℕ) where
-    pub head_none : q ≡ 0 → looked-as.Block 4294967295 ≡ looked_of (kept_of look B img q)
+    pub head_none : q ≡ 0 → Ok 4294967295 ≡ looked_of (kept_of look B img q)
     unfolding kept_of index_at start looked first_head
     head_none e = rw e
 
@@ -52,7 +53,7 @@ module _ (look : List ℕ → ℕ → Look) (img : List ℕ) where
         before a = same _ _ (start_before h a ∙ ap (λ (x : ℕ). index_at B (x - 1)) (sym ef))
 
         -- a kept block is lost
-        pub head_lost : 0 < first → first < q → look img (first - 1) ≡ Look.Lost → looked-as.Lost ≡ looked_of (kept_of look B img q)
+        pub head_lost : 0 < first → first < q → look img (first - 1) ≡ Look.Lost → Err Damaged ≡ looked_of (kept_of look B img q)
         unfolding kept_of
         head_lost a b e =
             rw (kept_of, wanted_both (omega arith) (omega arith))

@@ -1,11 +1,12 @@
 -- Lookups in a file's list: a lookup goes by the index only, the head is found at once, and the block before it by one pointer. Assumes nothing.
 use mathlib.Core.Path.{◌≡◌, refl, ap, ◌∙◌}
-use mathlib.Core.Bool.{true, false, ◌&&◌}
+use mathlib.Core.Bool.{Bool, true, false, ◌&&◌}
 use mathlib.Core.List.{List, [], ◌∷◌, ◌++◌}
 use Prim.Native.Nat.{ℕ, suc, ◌+◌, ◌-◌, ◌^◌, ◌≤◌, ◌<◌}
 use native.Mathlib.Omega.{arith}
 use Rattle.std.specs.Prelude.{Result, Ok, Err}
 use Rattle.layout.specs.declared.Refusal.{Refusal}
+use Rattle.layout.specs.declared.Refusal.TheVariants.{Damaged}
 use Rattle.layout.specs.Layout.{index_at, offset_at}
 use Rattle.layout.specs.inner.Served.{Served, block_list}
 use Rattle.layout.proofs.Served.{served, index_below}
@@ -15,13 +16,12 @@ use Rattle.ctz.specs.declared.Found.{Found}
 use Rattle.ctz.specs.Lookup.{walk, walk_to}
 use Rattle.ctz.specs.inner.Forms.{pointers_with, target, stand}
 use Rattle.ctz.specs.inner.Bounds.{ListFacts}
-use Rattle.ctz.proofs.Lookups.{found_tells}
+use Rattle.ctz.proofs.Lookups.{found_tells, found_answers}
 use Rattle.ctz.proofs.Walked.{walk_damaged, walk_at}
 use Rattle.ctz.proofs.Through.{placed, walk_placed, next_at, next_lost}
 use Rattle.files.specs.declared.Entry.{Entry}
-use Rattle.old_list.specs.declared.Looked.TheVariants as looked-as
 use Rattle.old_list.specs.Write.{Look, looked, look_of}
-use Rattle.old_list.specs.inner.Lookups.{looked_of, Behind, look_in}
+use Rattle.old_list.specs.inner.Lookups.{looked_of, found_all, Behind, look_in}
 use Rattle.old_list.proofs.Index.{index_within, index_before, index_some}
 
 -- the offset that a lookup answers is not looked at
@@ -82,14 +82,27 @@ look_below {B} {N} e img p k g l f = go (walk_to (card_with B N img) (block_list
         omega (arith, (found_tells img e.head (record { card = g.card; most = g.most; below = l }) w).below)
     go (Err refusal) w f = let z : ◌≡◌ {A = ℕ} 0 1 = cc in absurd (omega arith)
 
+-- a lookup that is refused is lost
+pub look_refused : {B N : ℕ} (e : Entry) {len : ℕ} (img : List ℕ) (p : ℕ) → ListFacts B N e.size len → p < e.size
+    → {r : Refusal} → walk_to (card_with B N img) (block_list e.head e.size) p ≡ Err r → Err r ≡ looked_of (look_in B N e img p)
+look_refused e img p g l w = rw w (ap Err (found_answers img e.head (record { card = g.card; most = g.most; below = l }) w))
+
 -- what an answer of the code tells
-pub told_block : (x : Look) (k : ℕ) → looked_of x ≡ looked-as.Block k → x ≡ Look.Found k
+pub told_block : (x : Look) (k : ℕ) → looked_of x ≡ Ok k → x ≡ Look.Found k
 told_block (Look.Found j) k e = let i : j ≡ k = cc in ap Look.Found i
 told_block Look.Lost k e = let z : ◌≡◌ {A = ℕ} 0 1 = cc in absurd (omega arith)
 
-pub told_lost : (x : Look) → looked_of x ≡ looked-as.Lost → x ≡ Look.Lost
-told_lost (Look.Found j) e = let z : ◌≡◌ {A = ℕ} 0 1 = cc in absurd (omega arith)
-told_lost Look.Lost e = refl
+pub told_lost : (x : Look) (r : Refusal) → looked_of x ≡ Err r → (x ≡ Look.Lost) × (Damaged ≡ r)
+told_lost (Look.Found j) r e = let z : ◌≡◌ {A = ℕ} 0 1 = cc in absurd (omega arith)
+told_lost Look.Lost r e = let i : Damaged ≡ r = cc in (refl, i)
+
+pub told_all : (b : Bool) {u : Unit {0}} → found_all b ≡ Ok u → b ≡ true
+told_all true e = refl
+told_all false e = let z : ◌≡◌ {A = ℕ} 0 1 = cc in absurd (omega arith)
+
+pub told_missed : (b : Bool) (r : Refusal) → found_all b ≡ Err r → (b ≡ false) × (Damaged ≡ r)
+told_missed true r e = let z : ◌≡◌ {A = ℕ} 0 1 = cc in absurd (omega arith)
+told_missed false r e = let i : Damaged ≡ r = cc in (refl, i)
 
 module _ (look : List ℕ → ℕ → Look) (img : List ℕ) where
   pub looked_more : (p : ℕ) (ps : List ℕ) (k : ℕ) → look img p ≡ Look.Found k → looked (look img) (p ∷ ps) ≡ looked (look img) ps

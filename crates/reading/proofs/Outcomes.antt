@@ -11,13 +11,14 @@ use Rattle.span.proofs.Runs.{get_d_sets_after}
 use Rattle.std.specs.Prelude.{Result, Ok, Err}
 use Rattle.layout.specs.declared.Refusal.{Refusal}
 use Rattle.layout.specs.declared.Refusal.TheVariants.{Missing, Invalid, Damaged}
+use Rattle.layout.specs.Refusals.{answer_code}
 use Rattle.layout.specs.inner.Served.{geometry}
 use Rattle.card.specs.inner.Cards.{card_with}
 use Rattle.plain.specs.Reading.{Gathered}
 use Rattle.files.specs.declared.Entry.{Entry}
 use Rattle.files.specs.declared.Table.{Table}
 use Rattle.finding.proofs.Gathers.{Gave, copied, damaged}
-use Rattle.reading.specs.Calls.{given, asked_of, read_of, read_code, read_length, ReadOut}
+use Rattle.reading.specs.Calls.{given, asked_of, read_of, read_length, ReadOut}
 use Rattle.reading.specs.inner.Bounds.{file_position}
 use Rattle.reading.proofs.Inner.{read_in_gave}
 use Rattle.reading.proofs.Asks as way
@@ -54,7 +55,7 @@ read_view B N image t number p buffer = go (ask_way B N (length image) t number 
 
 module _ {ask : Result Entry Refusal} {p : ℕ} {buffer : List ℕ} where
   -- a refused read leaves the buffer
-  pub refusal_leaves : {o : ReadOut} → ReadView ask p buffer o → (read_code o.answer ≡ pos 0 → ⊥) → o.buffer ≡ buffer
+  pub refusal_leaves : {o : ReadOut} → ReadView ask p buffer o → (answer_code o.answer ≡ pos 0 → ⊥) → o.buffer ≡ buffer
   refusal_leaves (bytes e bs q l) n = absurd (n refl)
   refusal_leaves (met_damage e q) n = refl
   refusal_leaves (missed q) n = refl
@@ -74,7 +75,7 @@ module _ {ask : Result Entry Refusal} {p : ℕ} {buffer : List ℕ} where
   beyond_kept (refused q) j d h = refl
 
   -- an answer gives min(room, size - position) bytes
-  pub answer_tells : {o : ReadOut} → ReadView ask p buffer o → (e : Entry) → ask ≡ Ok e → read_code o.answer ≡ pos 0
+  pub answer_tells : {o : ReadOut} → ReadView ask p buffer o → (e : Entry) → ask ≡ Ok e → answer_code o.answer ≡ pos 0
       → read_length o.answer ≡ min (length buffer) (e.size - p)
   answer_tells (bytes e bs q l) e' f c = let same : e ≡ e' = cc in l ∙ ap (λ (x : Entry). min (length buffer) (x.size - p)) same
   answer_tells (met_damage e q) e' f c = let z : ◌≡◌ {A = ℕ} 0 1 = cc in absurd (omega arith)

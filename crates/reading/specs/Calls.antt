@@ -1,11 +1,10 @@
 -- What read and stretch answer and leave (01, "Store calls"), in the order of the tests (01, "Refusal numbers").
-use Rattle.std.specs.Prelude.{true, false, Result, Ok, Err, List, ℕ, ltb, ℤ, length, take, drop}
+use Rattle.std.specs.Prelude.{true, false, Result, Ok, Err, List, ℕ, ltb, length, take, drop}
 use Rattle.std.proofs.lemmas.List.Edits.{sets}
 use Rattle.layout.specs.declared.Geometry.{Geometry}
 use Rattle.layout.specs.declared.Refusal.{Refusal}
 use Rattle.layout.specs.declared.Refusal.TheVariants.{Missing, Invalid, Damaged}
-use Rattle.layout.specs.Refusals.{refusal_code}
-use Rattle.layout.specs.Numbers.{size_max, accepted}
+use Rattle.layout.specs.Numbers.{size_max}
 use Rattle.layout.specs.Layout.{Position}
 use Rattle.card.specs.Card.{Card, good_card}
 use Rattle.plain.specs.Reading as plain
@@ -41,11 +40,7 @@ pub record ReadOut : Type 0 where
   pub answer : Result ℕ Refusal
   pub buffer : List ℕ
 
--- 01's number, and how many bytes were copied: 0 where it is refused
-abbrev pub read_code : Result ℕ Refusal → ℤ
-read_code (Ok length) = accepted
-read_code (Err refusal) = refusal_code refusal
-
+-- how many bytes were copied: 0 where it is refused
 abbrev pub read_length : Result ℕ Refusal → ℕ
 read_length (Ok length) = length
 read_length (Err refusal) = 0
@@ -80,11 +75,7 @@ stretch_of c t at =
       | Err refusal ↦ Err refusal
     ]
 
--- 01's number; the empty part is at place 0, a refusal's too
-abbrev pub placed_code : Result Part Refusal → ℤ
-placed_code (Ok part) = accepted
-placed_code (Err refusal) = refusal_code refusal
-
+-- the empty part is at place 0, a refusal's too
 abbrev pub placed_place : Result Part Refusal → ℕ
 placed_place (Ok part) = part.place
 placed_place (Err refusal) = 0

@@ -13,8 +13,8 @@ use Rattle.layout.specs.declared.Geometry.{Geometry}
 use Rattle.files.specs.declared.Table.{Table}
 use Rattle.files.proofs.Tests.{both_left, both_right}
 use Rattle.window.specs.declared.Lookahead.{Lookahead}
-use Rattle.grow.specs.declared.Grew.{Grew}
-use Rattle.grow.specs.Extend.{extend_of}
+use Rattle.window.specs.declared.Windowed.{Windowed}
+use Rattle.grow.specs.Extend.{Growth, extend_of}
 use Rattle.grow.specs.inner.Setting.{setting, state}
 use Rattle.grow.specs.inner.Gives.{GrewGives}
 use Rattle.told_windows.specs.declared.TidExtend.{TidExtend}
@@ -48,7 +48,7 @@ bytes_decide a b false f g = go (bytes_agree a b) refl
     go false h = refl
 
 -- a growth on an image of a card, and the record of it
-pub extend_on_lem : (list : List ℕ) (card l p q : ℕ) (g : Geometry) (health : List ℕ) (t : Table) (w : Lookahead) (h s : ℕ) (image : List ℕ) (r : Grew) (after : List ℕ)
+pub extend_on_lem : (list : List ℕ) (card l p q : ℕ) (g : Geometry) (health : List ℕ) (t : Table) (w : Lookahead) (h s : ℕ) (image : List ℕ) (r : Windowed Growth) (after : List ℕ)
     → g ≡ geometry_of list card
     → l ≡ word_of list card 2
     → p ≡ word_of list card 5
@@ -59,7 +59,7 @@ pub extend_on_lem : (list : List ℕ) (card l p q : ℕ) (g : Geometry) (health 
     → GrewGives (extend_on list card image w h s) r after
 extend_on_lem list card l p q g health t w h s image r after a b c d e f x = rw (f, e, d, c, b, a) at x
 
-module _ (list : List ℕ) (at card p h s : ℕ) (w : Lookahead) (image : List ℕ) (r : Grew) (after : List ℕ) (a : p ≡ word_of list at 5) (b : w ≡ window_of list p)
+module _ (list : List ℕ) (at card p h s : ℕ) (w : Lookahead) (image : List ℕ) (r : Windowed Growth) (after : List ℕ) (a : p ≡ word_of list at 5) (b : w ≡ window_of list p)
     (c : h ≡ word_of list at 7) (d : s ≡ word_of list at 8) (x : GrewGives (extend_on list card image w h s) r after) (whole : Bool) where
   grown : (t : Bool) → whole ≡ t → grown_equal whole list at card image ≡ grew_equal t list at (extend_on list card image w h s)
   unfolding grown_equal
@@ -72,7 +72,7 @@ module _ (list : List ℕ) (at card p h s : ℕ) (w : Lookahead) (image : List �
   image_decides q wanted y e u v f g =
       bytes_decide after wanted y f g ∙ sym (grown true e ∙ rw (grew_equal, ← x.image, ← u, ← v))
 
-  module _ (answer : TidExtend) (k : answer ≡ grew_told r.answer r.window) (e : whole ≡ false) (q : ℕ) (then : Lookahead) (u : q ≡ word_of list at 6) (v : then ≡ window_of list q) where
+  module _ (answer : TidExtend) (k : answer ≡ grew_told r) (e : whole ≡ false) (q : ℕ) (then : Lookahead) (u : q ≡ word_of list at 6) (v : then ≡ window_of list q) where
     parts : grown_equal whole list at card image ≡ (windows_agree answer.window then && told_of list at (bare_of answer.code) answer.block answer.offset 0)
     unfolding grew_equal
     parts = grown false e ∙ rw (grew_equal, k, v, u, x.window, x.answer)

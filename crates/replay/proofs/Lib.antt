@@ -1,4 +1,3 @@
 -- The laws of the replay.
 mod Listed
 mod Allotted
-mod Sought

@@ -16,6 +16,7 @@ use Rattle.layout.specs.declared.Refusal.{Refusal}
 use Rattle.layout.specs.declared.Refusal.TheVariants.{Missing, TableFull, Exists, Invalid, TooLarge, NoSpace, Damaged}
 use Rattle.layout.specs.Refusals.{refusal_code}
 use Rattle.card.specs.inner.Cards.{card_with}
+use Rattle.ctz.specs.declared.Found.{Found}
 use Rattle.ctz.specs.declared.visit.Visit.{Visit}
 use Rattle.ctz.specs.declared.visit.Step.{Step}
 use Rattle.ctz.specs.Visits.{traverse_of}

@@ -5,9 +5,9 @@ use mathlib.Core.List.{List, []}
 use Prim.Native.Nat.{ℕ, ◌+◌, ◌-◌, ◌≤◌, ◌<◌}
 use lib.ListN.{length}
 use Rattle.std.specs.Prelude.{Ok, Err}
-use Rattle.layout.specs.declared.Refusal.{Refusal}
-use Rattle.layout.specs.declared.Refusal.TheVariants.{Missing}
 use Rattle.layout.specs.Numbers.{size_max}
+use Rattle.layout.specs.declared.Refusal.{Refusal}
+use Rattle.layout.specs.declared.Refusal.TheVariants as refusal
 use Rattle.files.specs.declared.Table.{Table}
 use Rattle.files.specs.Table.{file, find_of}
 use Rattle.window.specs.declared.Lookahead.{Lookahead}
@@ -15,7 +15,6 @@ use Rattle.grow.specs.Setting.{tested_of}
 use Rattle.grow.specs.inner.Setting.{setting, state}
 use Rattle.old_list.specs.Write.{zeros}
 use Rattle.new_list.specs.inner.Put.{puts}
-use Rattle.store.specs.declared.Outcome.TheVariants as outcome
 use Rattle.store.specs.Store.{StoreOut, left, written_of, at_file, store_write, store_truncate}
 use Rattle.store.specs.inner.Store.{write_file, shrinks, truncate_file}
 use Rattle.store.specs.inner.Calls.{ask_write, ask_truncate}
@@ -29,34 +28,29 @@ module _ (B N l : ℕ) (image health : List ℕ) (w : Lookahead) (t : Table) (nu
   abbrev pub write_call : StoreOut
   write_call = store_write (setting B N l health) (state w t image) (ask_write number p src)
 
-  pub write_untested : tested_of (setting B N l health) w (length image) ≡ false → write_call ≡ left outcome.Refused w t image
+  pub write_untested : tested_of (setting B N l health) w (length image) ≡ false → write_call ≡ left (Err refusal.Invalid) w t image
   unfolding store_write at_file tested_of
   write_untested e = rw (store_write, at_file, e)
 
   module _ (e : tested_of (setting B N l health) w (length image) ≡ true) where
-    pub write_no_table : (q : Refusal) → (q ≡ Missing → ⊥) → find_of t number ≡ Err q → write_call ≡ left outcome.Refused w t image
+    pub write_refused : (r : Refusal) → find_of t number ≡ Err r → write_call ≡ left (Err r) w t image
     unfolding store_write at_file tested_of
-    write_no_table Missing d f = absurd (d refl)
-    write_no_table q d f = rw (store_write, at_file, e, f)
-
-    pub write_missing : find_of t number ≡ Err Missing → write_call ≡ left outcome.Missing w t image
-    unfolding store_write at_file tested_of
-    write_missing f = rw (store_write, at_file, e, f)
+    write_refused r f = rw (store_write, at_file, e, f)
 
     module _ (i : ℕ) (f : find_of t number ≡ Ok i) where
       pub write_found : write_call ≡ write_file B N l image health w t i p src
       unfolding store_write at_file tested_of
       write_found = rw (store_write, at_file, e, f) (file_same B N l image health w t i (asked B N l image health w t number i e f) number p src)
 
-      pub write_far : size_max < p → write_call ≡ left outcome.Refused w t image
+      pub write_far : size_max < p → write_call ≡ left (Err refusal.Invalid) w t image
       write_far h = write_found ∙ files.file_far B N l image health w t i p src h
 
       module _ (h : p ≤ size_max) where
-        pub write_large : size_max < p + length src → write_call ≡ left outcome.TooLarge w t image
+        pub write_large : size_max < p + length src → write_call ≡ left (Err refusal.TooLarge) w t image
         write_large m = write_found ∙ files.file_large B N l image health w t i p src h m
 
         module _ (m : p + length src ≤ size_max) where
-          pub write_none : length src ≡ 0 → write_call ≡ left outcome.Done w t image
+          pub write_none : length src ≡ 0 → write_call ≡ left (Ok tt) w t image
           write_none z = write_found ∙ files.file_none B N l image health w t i p src h m z
 
           pub write_some : (length src ≡ 0 → ⊥)
@@ -69,26 +63,21 @@ module _ (B N l : ℕ) (image health : List ℕ) (w : Lookahead) (t : Table) (nu
   abbrev pub truncate_call : StoreOut
   truncate_call = store_truncate (setting B N l health) (state w t image) (ask_truncate number size)
 
-  pub truncate_untested : tested_of (setting B N l health) w (length image) ≡ false → truncate_call ≡ left outcome.Refused w t image
+  pub truncate_untested : tested_of (setting B N l health) w (length image) ≡ false → truncate_call ≡ left (Err refusal.Invalid) w t image
   unfolding store_truncate at_file tested_of
   truncate_untested e = rw (store_truncate, at_file, e)
 
   module _ (e : tested_of (setting B N l health) w (length image) ≡ true) where
-    pub truncate_no_table : (q : Refusal) → (q ≡ Missing → ⊥) → find_of t number ≡ Err q → truncate_call ≡ left outcome.Refused w t image
+    pub truncate_refused : (r : Refusal) → find_of t number ≡ Err r → truncate_call ≡ left (Err r) w t image
     unfolding store_truncate at_file tested_of
-    truncate_no_table Missing d f = absurd (d refl)
-    truncate_no_table q d f = rw (store_truncate, at_file, e, f)
-
-    pub truncate_missing : find_of t number ≡ Err Missing → truncate_call ≡ left outcome.Missing w t image
-    unfolding store_truncate at_file tested_of
-    truncate_missing f = rw (store_truncate, at_file, e, f)
+    truncate_refused r f = rw (store_truncate, at_file, e, f)
 
     module _ (i : ℕ) (f : find_of t number ≡ Ok i) where
       pub truncate_found : truncate_call ≡ truncate_file B N l image health w t i size
       unfolding store_truncate at_file tested_of
       truncate_found = rw (store_truncate, at_file, e, f) (size_same B N l image health w t i (asked B N l image health w t number i e f) number size)
 
-      pub truncate_far : size_max < size → truncate_call ≡ left outcome.Refused w t image
+      pub truncate_far : size_max < size → truncate_call ≡ left (Err refusal.Invalid) w t image
       truncate_far h = truncate_found ∙ files.cut_far B N l image health w t i size h
 
       module _ (h : size ≤ size_max) where
@@ -96,7 +85,7 @@ module _ (B N l : ℕ) (image health : List ℕ) (w : Lookahead) (t : Table) (nu
         truncate_shrinks m = truncate_found ∙ files.cut_shrinks B N l image health w t i size h m
 
         module _ (m : (file t i).size ≤ size) where
-          pub truncate_same : size ≡ (file t i).size → truncate_call ≡ left outcome.Done w t image
+          pub truncate_same : size ≡ (file t i).size → truncate_call ≡ left (Ok tt) w t image
           truncate_same z = truncate_found ∙ files.cut_same B N l image health w t i size h m z
 
           pub truncate_more : (size ≡ (file t i).size → ⊥)

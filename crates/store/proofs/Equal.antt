@@ -7,6 +7,8 @@ use native.Mathlib.Omega.{arith}
 use borrow.Author.Tests.{ltb-true, ltb-false}
 use lib.Dec.{ltb}
 use lib.ListN.{length}
+use Rattle.std.specs.Prelude.{Err}
+use Rattle.layout.specs.declared.Refusal.TheVariants as refusal
 use Rattle.card.specs.inner.Cards.{CardFacts}
 use Rattle.health.specs.Health.{refuses_erase, refuses_program}
 use Rattle.device.specs.Device.{wiped}
@@ -15,9 +17,8 @@ use Rattle.trials.specs.Trial.{Trial, Fault, ends}
 use Rattle.trials.specs.Loop.{Took, Block, None, Bad, Flash}
 use Rattle.trials.proofs.Laws.{done_law, none_law, bad_law, passed_law, try_at}
 use Rattle.trials.proofs.Falls.{Falls}
-use Rattle.grow.specs.declared.Growth.TheVariants.{Grown, Damaged}
 use Rattle.grow.specs.Growth.{growth}
-use Rattle.grow.specs.Extend.{grow_out}
+use Rattle.grow.specs.Extend.{grown_at, grow_out}
 use Rattle.grow.specs.inner.Grow.{link_of, spoils, grow_of}
 use Rattle.grow.proofs.Spoils.{spoils_stored, spoils_empty, spoils_damaged, spoils_refused}
 use Rattle.grow.proofs.Turns.{grow_none, grow_bad, grow_kept, grow_spoiled, grow_linked}
@@ -47,7 +48,7 @@ module _ {W : Type 0} (look : List ℕ → ℕ → Look) (tries : W → ℕ) (c 
     spoiled : (r : ℕ) → s ≡ r → refuses_program c.health k ≡ true → Goal
     unfolding after grown_of
     spoiled zero z x =
-        let d : link_of c.B c.N k h s (wiped c.B img k) w' ≡ grow_out (Grown k 0) (wiped c.B img k) w' =
+        let d : link_of c.B c.N k h s (wiped c.B img k) w' ≡ grow_out (grown_at k 0) (wiped c.B img k) w' =
         rw z (link_empty c.B c.N k h (wiped c.B img k) w') in
         let l : 0 < length (trial_of look j (try_at c.B c.N k h s) (wiped c.B img k)).bytes = rw z (first_some look tries c j fits h k (wiped c.B img k) card.sized some) in
         ap (after look tries c j fits m h s) (links_on (spoils_empty c.health c.N k h s z) ∙ d)
@@ -70,7 +71,7 @@ module _ {W : Type 0} (look : List ℕ → ℕ → Look) (tries : W → ℕ) (c 
         head_by false y =
             let g : growth (try_at c.B c.N k h s) (wiped c.B img k) ≡ ends Fault =
             rw z (growth_lost c.B c.N k h card.sized r (wiped c.B img k) small y) in
-            let d : link_of c.B c.N k h s (wiped c.B img k) w' ≡ grow_out Damaged (wiped c.B img k) w' =
+            let d : link_of c.B c.N k h s (wiped c.B img k) w' ≡ grow_out (Err refusal.Damaged) (wiped c.B img k) w' =
             rw z (link_damaged c.B c.N k h (wiped c.B img k) w' r (ltb-false h c.N y)) in
             ap (after look tries c j fits m h s) (links_on (spoils_damaged c.health c.N k h s (ltb-false h c.N y)) ∙ d)
             ∙ sym (loses look tries c j fits m m' h s img w w' k card lt e f x

@@ -6,11 +6,12 @@ use Prim.Native.Nat.{ℕ, ◌+◌, ◌-◌, ◌≤◌, ◌<◌}
 use borrow.Author.Tests.{lt-ltb, le-ltb, eq-eqb, ne_eqb}
 use lib.Dec.{eqb}
 use lib.ListN.{length}
+use Rattle.std.specs.Prelude.{Result, Ok, Err}
 use Rattle.layout.specs.Numbers.{size_max, null_block}
 use Rattle.layout.specs.inner.Served.{block_list}
-use Rattle.card.specs.inner.Cards.{card_with}
-use Rattle.std.specs.Prelude.{Result, Ok, Err}
 use Rattle.layout.specs.declared.Refusal.{Refusal}
+use Rattle.layout.specs.declared.Refusal.TheVariants as refusal
+use Rattle.card.specs.inner.Cards.{card_with}
 use Rattle.ctz.specs.declared.Found.{Found}
 use Rattle.ctz.specs.Lookup.{walk_to}
 use Rattle.files.specs.declared.Table.{Table}
@@ -19,36 +20,19 @@ use Rattle.files.specs.Change.{with_list}
 use Rattle.window.specs.declared.Lookahead.{Lookahead}
 use Rattle.trials.specs.Loop.{Writing, Written, NoRoom, Corrupt, WriteOut}
 use Rattle.old_list.specs.Write.{zeros}
-use Rattle.new_list.specs.declared.Writing as declared
-use Rattle.new_list.specs.declared.Writing.TheVariants as writing
-use Rattle.new_list.specs.declared.Wrote.{Wrote}
-use Rattle.new_list.specs.inner.Put.{wrote_of, WroteGives, puts}
+use Rattle.new_list.specs.inner.Put.{Wrote, wrote_of, WroteGives, puts}
 use Rattle.new_list.proofs.Puts.{puts_as_gap}
-use Rattle.store.specs.declared.Outcome.{Outcome}
-use Rattle.store.specs.declared.Outcome.TheVariants as outcome
 use Rattle.store.specs.declared.Stored.{Stored}
-use Rattle.store.specs.Store.{stored_of, StoreOut, left, written, written_of}
+use Rattle.store.specs.Store.{Answer, stored_of, StoreOut, left, written, written_of}
 use Rattle.store.specs.inner.Store.{stays, write_file, shrunk, shrinks, truncate_file}
 use Rattle.store.specs.inner.Gives.{StoreGives}
 use Rattle.store.specs.inner.Calls.{finish_of}
 
-pub gives : {o : StoreOut} {a : Outcome} {w : Lookahead} {t : Table} {image : List ℕ} {r : Stored} → o ≡ left a w t image → r ≡ stays a w t
+pub gives : {o : StoreOut} {a : Answer} {w : Lookahead} {t : Table} {image : List ℕ} {r : Stored} → o ≡ left a w t image → r ≡ stays a w t
     → StoreGives o r image
 gives e f = rw (e, f) (record { stored = refl; image = refl })
 
 -- ---- the table changes last
-
-pub finish_written : (t : Table) (i h s : ℕ) {a : declared.Writing} {u : Table} (w : Lookahead) → a ≡ writing.Written h s → u ≡ with_list t i (record { head = h; size = s })
-    → record { answer = outcome.Done; window = w; table = u } ≡ finish_of t i a w
-finish_written t i h s w e f = rw (e, f)
-
-pub finish_full : (t : Table) (i : ℕ) {a : declared.Writing} (w : Lookahead) → a ≡ writing.NoRoom
-    → record { answer = outcome.Full; window = w; table = t } ≡ finish_of t i a w
-finish_full t i w e = rw e
-
-pub finish_lost : (t : Table) (i : ℕ) {a : declared.Writing} (w : Lookahead) → a ≡ writing.Corrupt
-    → record { answer = outcome.Damaged; window = w; table = t } ≡ finish_of t i a w
-finish_lost t i w e = rw e
 
 pub finishes : (t : Table) (i : ℕ) {o : WriteOut Lookahead} {r : Wrote} {after : List ℕ} {s : Stored} → WroteGives o r after
     → s ≡ finish_of t i r.answer r.window → StoreGives (written_of t i o) s after
@@ -62,17 +46,17 @@ finishes t i {o} {r} {after} {s} g e = rw (e, g.answer, g.window, g.image) (go o
 -- ---- write
 
 module _ (B N l : ℕ) (image health : List ℕ) (w : Lookahead) (t : Table) (i p : ℕ) (src : List ℕ) where
-  pub file_far : size_max < p → write_file B N l image health w t i p src ≡ left outcome.Refused w t image
+  pub file_far : size_max < p → write_file B N l image health w t i p src ≡ left (Err refusal.Invalid) w t image
   unfolding write_file
   file_far h = rw (write_file, lt-ltb size_max p h)
 
   module _ (h : p ≤ size_max) where
-    pub file_large : size_max < p + length src → write_file B N l image health w t i p src ≡ left outcome.TooLarge w t image
+    pub file_large : size_max < p + length src → write_file B N l image health w t i p src ≡ left (Err refusal.TooLarge) w t image
     unfolding write_file
     file_large m = rw (write_file, le-ltb size_max p h, lt-ltb size_max (p + length src) m)
 
     module _ (m : p + length src ≤ size_max) where
-      pub file_none : length src ≡ 0 → write_file B N l image health w t i p src ≡ left outcome.Done w t image
+      pub file_none : length src ≡ 0 → write_file B N l image health w t i p src ≡ left (Ok tt) w t image
       unfolding write_file
       file_none z = rw (write_file, le-ltb size_max p h, le-ltb size_max (p + length src) m, eq-eqb (length src) 0 z)
 
@@ -85,7 +69,7 @@ module _ (B N l : ℕ) (image health : List ℕ) (w : Lookahead) (t : Table) (i 
 
 module _ (B N : ℕ) (image : List ℕ) (w : Lookahead) (t : Table) (i size : ℕ) where
   -- to 0
-  pub shrinks_none : size ≡ 0 → shrinks B N image w t i size ≡ left outcome.Done w (with_list t i (record { head = null_block; size = 0 })) image
+  pub shrinks_none : size ≡ 0 → shrinks B N image w t i size ≡ left (Ok tt) w (with_list t i (record { head = null_block; size = 0 })) image
   unfolding shrinks
   shrinks_none z = rw (shrinks, eq-eqb size 0 z)
 
@@ -95,16 +79,16 @@ module _ (B N : ℕ) (image : List ℕ) (w : Lookahead) (t : Table) (i size : �
   shrinks_some z = rw (shrinks, ne_eqb size 0 z)
 
   pub shrinks_empty : {u : Table} → size ≡ 0 → u ≡ with_list t i (record { head = null_block; size = 0 })
-      → stays outcome.Done w u ≡ stored_of (shrinks B N image w t i size)
+      → stays (Ok tt) w u ≡ stored_of (shrinks B N image w t i size)
   shrinks_empty z f = rw (shrinks_none z, f)
 
   module _ (z : size ≡ 0 → ⊥) {x : Result Found Refusal} (g : x ≡ walk_to (card_with B N image) (block_list (file t i).head (file t i).size) (size - 1)) where
     pub shrinks_found : {found : Found} {u : Table} → x ≡ Ok found → u ≡ with_list t i (record { head = found.block; size = size })
-        → stays outcome.Done w u ≡ stored_of (shrinks B N image w t i size)
+        → stays (Ok tt) w u ≡ stored_of (shrinks B N image w t i size)
     shrinks_found e f = rw (shrinks_some z, ← g, e, f)
 
-    pub shrinks_damaged : {d : Refusal} → x ≡ Err d → record { answer = outcome.Damaged; window = w; table = t } ≡ stored_of (shrinks B N image w t i size)
-    shrinks_damaged e = rw (shrinks_some z, ← g, e)
+    pub shrinks_refused : {r : Refusal} → x ≡ Err r → stays (Err r) w t ≡ stored_of (shrinks B N image w t i size)
+    shrinks_refused e = rw (shrinks_some z, ← g, e)
 
   -- card and window stay as they were
   pub shrinks_keeps : ((shrinks B N image w t i size).state.image ≡ image) × ((shrinks B N image w t i size).state.window ≡ w)
@@ -112,7 +96,7 @@ module _ (B N : ℕ) (image : List ℕ) (w : Lookahead) (t : Table) (i size : �
   shrinks_keeps = go (eqb size 0) (walk_to (card_with B N image) (block_list (file t i).head (file t i).size) (size - 1))
     where
       pick : Bool → Result Found Refusal → StoreOut
-      pick b x = elim b [ true ↦ left outcome.Done w (with_list t i (record { head = null_block; size = 0 })) image | false ↦ shrunk t i size w image x ]
+      pick b x = elim b [ true ↦ left (Ok tt) w (with_list t i (record { head = null_block; size = 0 })) image | false ↦ shrunk t i size w image x ]
 
       go : (b : Bool) (x : Result Found Refusal) → ((pick b x).state.image ≡ image) × ((pick b x).state.window ≡ w)
       go true x = (refl, refl)
@@ -122,7 +106,7 @@ module _ (B N : ℕ) (image : List ℕ) (w : Lookahead) (t : Table) (i size : �
 -- ---- truncate
 
 module _ (B N l : ℕ) (image health : List ℕ) (w : Lookahead) (t : Table) (i size : ℕ) where
-  pub cut_far : size_max < size → truncate_file B N l image health w t i size ≡ left outcome.Refused w t image
+  pub cut_far : size_max < size → truncate_file B N l image health w t i size ≡ left (Err refusal.Invalid) w t image
   unfolding truncate_file
   cut_far h = rw (truncate_file, lt-ltb size_max size h)
 
@@ -132,7 +116,7 @@ module _ (B N l : ℕ) (image health : List ℕ) (w : Lookahead) (t : Table) (i 
     cut_shrinks m = rw (truncate_file, le-ltb size_max size h, lt-ltb size (file t i).size m)
 
     module _ (m : (file t i).size ≤ size) where
-      pub cut_same : size ≡ (file t i).size → truncate_file B N l image health w t i size ≡ left outcome.Done w t image
+      pub cut_same : size ≡ (file t i).size → truncate_file B N l image health w t i size ≡ left (Ok tt) w t image
       unfolding truncate_file
       cut_same z = rw (truncate_file, le-ltb size_max size h, le-ltb size (file t i).size m, eq-eqb size (file t i).size z)
 

@@ -5,8 +5,10 @@ use mathlib.Core.List.{List, [], ◌∷◌, ◌++◌}
 use Prim.Native.Nat.{ℕ}
 use lib.Count.{count_trailing_zeros, count_leading_zeros}
 use lib.ListN.{replicate}
+use Rattle.std.specs.Prelude.{Ok, Err}
 use Rattle.span.specs.Words.{bytes32, word_at}
 use Rattle.layout.specs.Layout.{pointers, capacity, start, index_at, offset_at}
+use Rattle.layout.specs.declared.Refusal.TheVariants as refusal
 use Rattle.card.specs.Card.{good_card, pointer}
 use Rattle.health.specs.Health.{each_valid, health_ok}
 use Rattle.device.specs.Device.{stored, wiped}
@@ -25,7 +27,6 @@ use Rattle.trials.specs.Loop.{tried, followed, turn_of, write_by}
 use Rattle.grow.specs.Setting.{tested_of}
 use Rattle.grow.specs.Growth.{links, growth}
 use Rattle.old_list.specs.Write.{ahead, then, tail, trial_of, starts, wanted, looked, first_head}
-use Rattle.store.specs.declared.Outcome.TheVariants as outcome
 use Rattle.store.specs.Store.{StoreOut, left, put_on, at_file, write_at, store_write}
 
 -- The file is 372 bytes of 7 in blocks 0, 1 and 2, all three full. Pointer 1 of block 2 should name block 0 and names p. Blocks 3, 4 and 5 are given.
@@ -71,14 +72,14 @@ good = replicate 6 0
 -- The list is sound, but block 4 refuses its erase and block 5 its program: -28. The table is as it came, the window used up, block 3 filled, block 4 as it
 -- came, block 5 erased.
 refused : (writes 0 good (window 7 0 3 6 3) 372 125
-    ≡ left outcome.Done (window 7 0 5 6 4) (files 497 4)
+    ≡ left (Ok tt) (window 7 0 5 6 4) (files 497 4)
     (card 0 filled (3 ∷ 0 ∷ 0 ∷ 0 ∷ 2 ∷ 0 ∷ 0 ∷ 0 ∷ 0 ∷ 0 ∷ 0 ∷ 0 ∷ 5 ∷ replicate 115 255) spare))
     × (writes 77 good (window 7 0 3 6 3) 372 125
-    ≡ left outcome.Damaged (window 7 0 5 6 4) (files 372 2) (card 77 filled (3 ∷ 0 ∷ 0 ∷ 0 ∷ 2 ∷ 0 ∷ 0 ∷ 0 ∷ replicate 120 255) spare))
-    × (writes 77 good (window 7 0 3 4 3) 372 125 ≡ left outcome.Damaged (window 24 4 0 0 6) (files 372 2) (card 77 filled spare spare))
-    × (writes 77 good (window 0 0 0 0 6) 372 125 ≡ left outcome.Damaged (window 6 0 0 0 6) (files 372 2) (card 77 spare spare spare))
-    × (writes 77 good (window 7 0 3 6 3) 0 1 ≡ left outcome.Damaged (window 7 0 3 6 6) (files 372 2) (card 77 spare spare spare))
+    ≡ left (Err refusal.Damaged) (window 7 0 5 6 4) (files 372 2) (card 77 filled (3 ∷ 0 ∷ 0 ∷ 0 ∷ 2 ∷ 0 ∷ 0 ∷ 0 ∷ replicate 120 255) spare))
+    × (writes 77 good (window 7 0 3 4 3) 372 125 ≡ left (Err refusal.Damaged) (window 24 4 0 0 6) (files 372 2) (card 77 filled spare spare))
+    × (writes 77 good (window 0 0 0 0 6) 372 125 ≡ left (Err refusal.Damaged) (window 6 0 0 0 6) (files 372 2) (card 77 spare spare spare))
+    × (writes 77 good (window 7 0 3 6 3) 0 1 ≡ left (Err refusal.Damaged) (window 7 0 3 6 6) (files 372 2) (card 77 spare spare spare))
     × (writes 0 (0 ∷ 0 ∷ 0 ∷ 0 ∷ 1 ∷ 2 ∷ []) (window 7 0 3 6 3) 372 125
-    ≡ left outcome.Full (window 7 0 3 3 0) (files 372 2) (card 0 filled spare (replicate 128 255)))
+    ≡ left (Err refusal.NoSpace) (window 7 0 3 3 0) (files 372 2) (card 0 filled spare (replicate 128 255)))
 unfolding writes store_write at_file tested_of write_at put_on wanted starts looked first_head write_by followed turn_of tried taken_by trial_of then growth links tail ahead series done programs wiped stored alloc_of alloc_by take_of skip scan_of cleared mark_all mark_map seen_in seen_all visit_of visit hand good_card health_ok each_valid lookahead_fits valid_of find_of search_of table_ok files_ok entry_ok head_ok walk_to walk pointer word_at bytes32 pointers capacity start index_at offset_at count_trailing_zeros count_leading_zeros
 refused = (refl, refl, refl, refl, refl, refl)

@@ -5,9 +5,11 @@ use mathlib.Core.List.{List, [], ◌∷◌, ◌++◌}
 use Prim.Native.Nat.{ℕ}
 use lib.Count.{count_trailing_zeros, count_leading_zeros}
 use lib.ListN.{replicate}
+use Rattle.std.specs.Prelude.{Ok, Err}
 use Rattle.span.specs.Words.{word_at}
 use Rattle.layout.specs.Layout.{pointers, capacity, start, index_at, offset_at}
 use Rattle.layout.specs.Numbers.{null_block}
+use Rattle.layout.specs.declared.Refusal.TheVariants as refusal
 use Rattle.card.specs.Card.{good_card, pointer}
 use Rattle.health.specs.Health.{each_valid, health_ok}
 use Rattle.ctz.specs.Lookup.{walk, walk_to}
@@ -16,7 +18,6 @@ use Rattle.files.specs.Table.{search_of, find_of, head_ok, entry_ok, files_ok, t
 use Rattle.window.specs.declared.Lookahead.{Lookahead}
 use Rattle.window.specs.Value.{lookahead_fits, valid_of}
 use Rattle.grow.specs.Setting.{tested_of}
-use Rattle.store.specs.declared.Outcome.TheVariants as outcome
 use Rattle.store.specs.Store.{StoreOut, left, at_file, cut_down, truncate_at, store_truncate}
 
 -- The file is 260 bytes in blocks 2, 0 and 1: 128 of 7; 124 of 8 behind a pointer; 8 of 9 behind two. The first of those should name block 0 and names p.
@@ -40,7 +41,7 @@ truncates p size =
 
 -- done, with that size and head; card and window are as they came
 abbrev keeps : ℕ → ℕ → StoreOut
-keeps size head = left outcome.Done window (files size head) (card 0)
+keeps size head = left (Ok tt) window (files size head) (card 0)
 
 -- The size it has changes nothing. Block 1 stays the head inside it and one past the end of block 0; block 0 becomes the head exactly at its end, inside it
 -- and one past the end of block 2; block 2 exactly at its end, inside it and for one byte; for none the head is null.
@@ -52,6 +53,6 @@ unfolding truncates store_truncate at_file tested_of truncate_at cut_down good_c
 shrank = (refl, refl, refl, refl, refl, refl, refl, refl, refl, refl)
 
 -- Where the pointer names no block of the card: -84 if it would become the head, and all is as it came.
-lost : truncates 77 252 ≡ left outcome.Damaged window (files 260 1) (card 77)
+lost : truncates 77 252 ≡ left (Err refusal.Damaged) window (files 260 1) (card 77)
 unfolding truncates store_truncate at_file tested_of truncate_at cut_down good_card health_ok each_valid lookahead_fits valid_of find_of search_of table_ok files_ok entry_ok head_ok walk_to walk pointer word_at pointers capacity start index_at offset_at count_trailing_zeros count_leading_zeros
 lost = refl

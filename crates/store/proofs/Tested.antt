@@ -1,6 +1,6 @@
 -- The tests before a write or truncate: their answers one after the other, and what they tell. Assumes nothing.
 use mathlib.Core.Path.{◌≡◌, sym}
-use mathlib.Core.Bool.{Bool, true, false, and-eq-true_iff}
+use mathlib.Core.Bool.{true, and-eq-true_iff}
 use mathlib.Core.List.{List}
 use Prim.Native.Nat.{ℕ, ◌+◌, ◌≤◌, ◌<◌}
 use native.Mathlib.Nat.{le_of_eq}
@@ -24,25 +24,6 @@ use Rattle.grow.specs.Setting.{tested_of}
 use Rattle.grow.specs.inner.Setting.{setting}
 use Rattle.new_list.specs.inner.Put.{Putting}
 use Rattle.store.specs.inner.Calls.{Shrinking, CallAsked}
-
-module _ (B N l len : ℕ) (health : List ℕ) (w : Lookahead) where
-  pub no_card : good_card (geometry B N) len ≡ false → false ≡ tested_of (setting B N l health) w len
-  unfolding tested_of
-  no_card e = rw (tested_of, e)
-
-  module _ (a : good_card (geometry B N) len ≡ true) where
-    pub no_health : health_ok health N ≡ false → false ≡ tested_of (setting B N l health) w len
-    unfolding tested_of
-    no_health e = rw (tested_of, a, e)
-
-    module _ (b : health_ok health N ≡ true) where
-      pub no_lookahead : lookahead_fits l ≡ false → false ≡ tested_of (setting B N l health) w len
-      unfolding tested_of
-      no_lookahead e = rw (tested_of, a, b, e)
-
-      pub last_test : {r : Bool} → lookahead_fits l ≡ true → r ≡ valid_of (scope N l) w → r ≡ tested_of (setting B N l health) w len
-      unfolding tested_of
-      last_test c e = rw (tested_of, a, b, c) e
 
 -- behind the tests
 pub record Tests (B N l : ℕ) (image health : List ℕ) (w : Lookahead) : Type 0 where

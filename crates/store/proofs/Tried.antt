@@ -18,9 +18,8 @@ use Rattle.device.proofs.Frame.{stored_length, wiped_length}
 use Rattle.trials.specs.Trial.{Trial, Ending, Whole, Fault, ends, more, whole, taken_by}
 use Rattle.trials.specs.Loop.{Block, Flash, Plan, Corrupt, WriteOut, write_out, write_by, Candidate}
 use Rattle.trials.proofs.Laws.{at, taken_all, taken_none, taken_empty, whole_law, refused_law, fault_law, try_at}
-use Rattle.grow.specs.declared.Growth.TheVariants.{Grown}
 use Rattle.grow.specs.Growth.{offset, growth}
-use Rattle.grow.specs.Extend.{GrowOut, grow_out}
+use Rattle.grow.specs.Extend.{grown_at, GrowOut, grow_out}
 use Rattle.grow.specs.inner.Grow.{part, link_of}
 use Rattle.grow.proofs.Pointed.{given}
 use Rattle.grow.proofs.Growths.{offset_le, link_nested, growth_length, growth_first, growth_ends}
@@ -55,12 +54,12 @@ module _ {W : Type 0} (look : List ℕ → ℕ → Look) (tries : W → ℕ) (c 
       ])
 
   after_good : (m h s k off : ℕ) (i : List ℕ) (w : W) → refuses_program c.health k ≡ false
-      → after m h s (grow_out (Grown k off) i w) ≡ filled_of look c.B j k off s (min (new j - s) (c.B - off))
+      → after m h s (grow_out (grown_at k off) i w) ≡ filled_of look c.B j k off s (min (new j - s) (c.B - off))
       (fronted c.B k off s (min (new j - s) (c.B - off)) j.pos j.src i) w (λ img'. nested m k (s + min (new j - s) (c.B - off)) img' w)
   unfolding after grown_of
   after_good m h s k off i w r = rw (after, grown_of, r) refl
 
-  pub after_bad : (m h s k off : ℕ) (i : List ℕ) (w : W) → refuses_program c.health k ≡ true → after m h s (grow_out (Grown k off) i w) ≡ nested m h s i w
+  pub after_bad : (m h s k off : ℕ) (i : List ℕ) (w : W) → refuses_program c.health k ≡ true → after m h s (grow_out (grown_at k off) i w) ≡ nested m h s i w
   unfolding after grown_of
   after_bad m h s k off i w r = rw (after, grown_of, r) refl
 

@@ -1,9 +1,9 @@
 -- What write and truncate answer and leave, for every input (01, "Store calls", "Refusal numbers").
-use Rattle.std.specs.Prelude.{true, false, Ok, Err, List, ℕ, zero, suc, ◌+◌, ◌-◌, ltb, eqb, length}
-use Rattle.std.proofs.Math.IntN as int
-use Rattle.layout.specs.Numbers.{size_max, null_block, accepted, damaged_card, invalid, no_file, no_space, too_large}
-use Rattle.layout.specs.declared.Refusal.TheVariants.{Missing}
+use Rattle.std.specs.Prelude.{true, false, Result, Ok, Err, List, ℕ, zero, suc, ◌+◌, ◌-◌, ltb, eqb, length}
+use Rattle.layout.specs.Numbers.{size_max, null_block}
 use Rattle.layout.specs.Layout.{BlockList}
+use Rattle.layout.specs.declared.Refusal.{Refusal}
+use Rattle.layout.specs.declared.Refusal.TheVariants as refusal
 use Rattle.ctz.specs.Lookup.{walk_to}
 use Rattle.files.specs.declared.Entry.{Entry}
 use Rattle.files.specs.declared.Table.{Table}
@@ -15,8 +15,6 @@ use Rattle.trials.specs.Loop.{Writing, Written, NoRoom, Corrupt, WriteOut, write
 use Rattle.grow.specs.Setting.{Setting, State, tested}
 use Rattle.grow.specs.Extend.{flash}
 use Rattle.old_list.specs.Write.{zeros, Job, job_of, kept, Look, look_of, plan_of, wanted, looked, first_head}
-use Rattle.store.specs.declared.Outcome.{Outcome}
-use Rattle.store.specs.declared.Outcome.TheVariants as outcome
 use Rattle.store.specs.declared.Stored.{Stored}
 use Rattle.store.specs.Asked.{WriteAsked, TruncateAsked}
 
@@ -39,36 +37,39 @@ put_on c st j =
           (record { head = first_head (look st.image) (kept j); size = kept j; image = st.image; rest = w })
     ]
 
+-- accepted, or why not
+abbrev pub Answer : Type 0
+Answer = Result (Unit {0}) Refusal
+
 -- what a call leaves
 pub record StoreOut : Type 0 where
-  pub answer : Outcome
+  pub answer : Answer
   pub state : State
 
-abbrev pub left : Outcome → Lookahead → Table → List ℕ → StoreOut
+abbrev pub left : Answer → Lookahead → Table → List ℕ → StoreOut
 left a w t image = record { answer = a; state = record { window = w; table = t; image = image } }
 
 -- The table changes last: only an accepted write changes it. -28 and -84 leave window and image as the steps left them.
 abbrev pub written : Table → ℕ → Writing → Lookahead → List ℕ → StoreOut
-written t i (Written h s) w image = left outcome.Done w (change.with_list t i (record { head = h; size = s })) image
-written t i NoRoom w image = left outcome.Full w t image
-written t i Corrupt w image = left outcome.Damaged w t image
+written t i (Written h s) w image = left (Ok tt) w (change.with_list t i (record { head = h; size = s })) image
+written t i NoRoom w image = left (Err refusal.NoSpace) w t image
+written t i Corrupt w image = left (Err refusal.Damaged) w t image
 
 abbrev pub written_of : Table → ℕ → WriteOut Lookahead → StoreOut
 written_of t i o = written t i o.answer o.rest o.image
 
 -- all as it came
-abbrev pub same : Outcome → State → StoreOut
+abbrev pub same : Answer → State → StoreOut
 same a st = record { answer = a; state = st }
 
 -- Order: geometry and slices, window and table, file number (-22), no such file (-2), then the file, at its place in the table.
 unfoldable pub at_file : Setting → State → ℕ → (ℕ → StoreOut) → StoreOut
 at_file c st number go =
     elim (tested c st) [
-      | false ↦ same outcome.Refused st
+      | false ↦ same (Err refusal.Invalid) st
       | true ↦ elim (find_of st.table number) [
         | Ok i ↦ go i
-        | Err Missing ↦ same outcome.Missing st
-        | Err r ↦ same outcome.Refused st
+        | Err r ↦ same (Err r) st
       ]
     ]
 
@@ -76,11 +77,11 @@ at_file c st number go =
 unfoldable pub write_at : Setting → State → WriteAsked → ℕ → StoreOut
 write_at c st a i =
     elim (ltb size_max a.position) [
-      | true ↦ same outcome.Refused st
+      | true ↦ same (Err refusal.Invalid) st
       | false ↦ elim (ltb size_max (a.position + length a.bytes)) [
-        | true ↦ same outcome.TooLarge st
+        | true ↦ same (Err refusal.TooLarge) st
         | false ↦ elim (eqb (length a.bytes) 0) [
-          | true ↦ same outcome.Done st
+          | true ↦ same (Ok tt) st
           | false ↦ written_of st.table i (put_on c st (job_of (file st.table i) a.position a.bytes))
         ]
       ]
@@ -99,11 +100,11 @@ unfoldable pub truncate_at : Setting → State → TruncateAsked → ℕ → Sto
 truncate_at c st a i =
     let e : Entry = file st.table i in
     elim (ltb size_max a.size) [
-      | true ↦ same outcome.Refused st
+      | true ↦ same (Err refusal.Invalid) st
       | false ↦ elim (ltb a.size e.size) [
         | true ↦ written_of st.table i (write_out (cut_down (look_on c (list_of e) st.image) a.size) st.image st.window)
         | false ↦ elim (eqb a.size e.size) [
-          | true ↦ same outcome.Done st
+          | true ↦ same (Ok tt) st
           | false ↦ written_of st.table i (put_on c st (job_of e e.size (zeros (a.size - e.size))))
         ]
       ]
@@ -115,12 +116,3 @@ store_truncate c st a = at_file c st a.number (truncate_at c st a)
 -- the answer, with window and table
 abbrev pub stored_of : StoreOut → Stored
 stored_of o = record { answer = o.answer; window = o.state.window; table = o.state.table }
-
--- 01's number for each case
-abbrev pub outcome_code : Outcome → int.ℤ
-outcome_code outcome.Done = accepted
-outcome_code outcome.Missing = no_file
-outcome_code outcome.TooLarge = too_large
-outcome_code outcome.Full = no_space
-outcome_code outcome.Damaged = damaged_card
-outcome_code outcome.Refused = invalid

@@ -3,10 +3,10 @@ ghost use Rattle.store.specs.inner.Store.{write_file, truncate_file};
 ghost use Rattle.store.specs.inner.Gives.{StoreGives};
 ghost use Rattle.store.specs.inner.Calls.{CallAsked};
 
+use super::Stored;
 use super::steps::{finish, left, shrink};
-use super::{Outcome, Stored};
 use files::Table;
-use layout::Geometry;
+use layout::{Geometry, Refusal};
 use new_list::put;
 use window::Lookahead;
 
@@ -29,13 +29,13 @@ pub fn write_file(
         result image.new }
 {
     if Geometry::FILE_MAX < pos {
-        return left(Outcome::Refused, w, t);
+        return left(Err(Refusal::Invalid), w, t);
     }
     if ((Geometry::FILE_MAX - pos) as usize) < data.len() {
-        return left(Outcome::TooLarge, w, t);
+        return left(Err(Refusal::TooLarge), w, t);
     }
     if data.len() == 0 {
-        return left(Outcome::Done, w, t);
+        return left(Ok(()), w, t);
     }
     let e = t.files[i as usize];
     let wrote = put(b, n, l, image, health, t, w, e, pos, data);
@@ -60,7 +60,7 @@ pub fn truncate_file(
         result image.new }
 {
     if Geometry::FILE_MAX < size {
-        return left(Outcome::Refused, w, t);
+        return left(Err(Refusal::Invalid), w, t);
     }
     let e = t.files[i as usize];
     let old = e.size;
@@ -68,7 +68,7 @@ pub fn truncate_file(
         return shrink(b, n, &image[..], w, t, i, size);
     }
     if size == old {
-        return left(Outcome::Done, w, t);
+        return left(Ok(()), w, t);
     }
     let wrote = put(b, n, l, image, health, t, w, e, size, &health[0..0]);
     finish(t, i, wrote)

@@ -9,30 +9,15 @@ ghost use Rattle.store.specs.inner.Gives.{StoreGives};
 
 use file::{truncate_file, write_file};
 use files::Table;
+use grow::valid_setting;
 use layout::{Geometry, Refusal};
-use steps::{left, valid_store};
+use steps::left;
 use window::Lookahead;
-
-// What a write or truncate answers.
-#[derive(Clone, Copy)]
-pub enum Outcome {
-    Done,
-    // No such file: -2.
-    Missing,
-    // Position plus length is above the largest size: -27.
-    TooLarge,
-    // Fewer blocks are left than it needs: -28.
-    Full,
-    // A block number that is not below the block count: -84.
-    Damaged,
-    // -22.
-    Refused,
-}
 
 // The answer, with the window and the table after the call.
 #[derive(Clone, Copy)]
 pub struct Stored {
-    pub answer: Outcome,
+    pub answer: Result<(), Refusal>,
     pub window: Lookahead,
     pub table: Table,
 }
@@ -56,8 +41,8 @@ pub fn write(
         (record { number = number; position = pos; bytes = «data».now }))
         result image.new }
 {
-    if !valid_store(g, l, image.len(), health, w) {
-        return left(Outcome::Refused, w, t);
+    if !valid_setting(g, l, image.len(), health, w) {
+        return left(Err(Refusal::Invalid), w, t);
     }
     match files::find(t, number) {
         Ok(i) => write_file(
@@ -72,8 +57,7 @@ pub fn write(
             pos,
             data,
         ),
-        Err(Refusal::Missing) => left(Outcome::Missing, w, t),
-        Err(_) => left(Outcome::Refused, w, t),
+        Err(refusal) => left(Err(refusal), w, t),
     }
 }
 
@@ -95,12 +79,11 @@ pub fn truncate(
         (record { number = number; size = size }))
         result image.new }
 {
-    if !valid_store(g, l, image.len(), health, w) {
-        return left(Outcome::Refused, w, t);
+    if !valid_setting(g, l, image.len(), health, w) {
+        return left(Err(Refusal::Invalid), w, t);
     }
     match files::find(t, number) {
         Ok(i) => truncate_file(g.block_size, g.block_count, l, image, health, w, t, i, size),
-        Err(Refusal::Missing) => left(Outcome::Missing, w, t),
-        Err(_) => left(Outcome::Refused, w, t),
+        Err(refusal) => left(Err(refusal), w, t),
     }
 }

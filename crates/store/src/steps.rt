@@ -1,61 +1,39 @@
-// What write and truncate do around the growths: the tests first, the table last, and a file cut down.
+// What write and truncate do around the growths: the table last, and a file cut down.
 ghost use Rattle.std.specs.Prelude.{◌≡◌, ◌<◌, length};
 ghost use Rattle.layout.specs.Numbers.{files_max};
-ghost use Rattle.grow.specs.Setting.{tested_of};
-ghost use Rattle.grow.specs.inner.Setting.{setting};
 ghost use Rattle.store.specs.Store.{stored_of};
 ghost use Rattle.store.specs.inner.Calls.{Shrinking, finish_of};
 ghost use Rattle.store.specs.inner.Store.{stays, shrinks};
 
-use super::{Outcome, Stored};
+use super::Stored;
 use files::Table;
-use layout::Geometry;
-use new_list::{Writing, Wrote};
-use window::Lookahead;
-
-// Whether geometry, slices, health bytes, L and window are not refused.
-pub fn valid_store(g: Geometry, l: u32, len: usize, health: &[u8], w: Lookahead) -> bool
-    ensures { result ≡ tested_of (setting g.block_size g.block_count l health.now) w len }
-{
-    let n = g.block_count;
-    if !card::good_card(g, len) {
-        return false;
-    }
-    if !health::good_health(health, n) {
-        return false;
-    }
-    if !window::valid_lookahead(l) {
-        return false;
-    }
-    window::valid_window(w, n, l)
-}
+use layout::{BlockList, Geometry, Refusal};
+use window::{Lookahead, Windowed};
 
 // An answer, with window and table as they are.
-pub fn left(answer: Outcome, w: Lookahead, t: Table) -> Stored
-    ensures { result ≡ stays answer w t }
+pub fn left(answer: Result<(), Refusal>, window: Lookahead, table: Table) -> Stored
+    ensures { result ≡ stays answer window table }
 {
     Stored {
-        answer: answer,
-        window: w,
-        table: t,
+        answer,
+        window,
+        table,
     }
 }
 
 // The table changes last, and only for a write that came to its end.
-pub fn finish(t: Table, i: u32, wrote: Wrote) -> Stored
+pub fn finish(t: Table, i: u32, wrote: Windowed<Result<BlockList, Refusal>>) -> Stored
     requires { i < files_max }
     ensures { result ≡ finish_of t i wrote.answer wrote.window }
 {
-    let answer = wrote.answer;
-    let w = wrote.window;
-    match answer {
-        Writing::Written { head, size } => Stored {
-            answer: Outcome::Done,
-            window: w,
-            table: files::change::put(t, i, size, head),
+    let window = wrote.window;
+    match wrote.answer {
+        Ok(list) => Stored {
+            answer: Ok(()),
+            window,
+            table: files::change::put(t, i, list.size, list.head),
         },
-        Writing::NoRoom => left(Outcome::Full, w, t),
-        Writing::Corrupt => left(Outcome::Damaged, w, t),
+        Err(refusal) => left(Err(refusal), window, t),
     }
 }
 
@@ -66,7 +44,7 @@ pub fn shrink(b: u32, n: u32, image: &[u8], w: Lookahead, t: Table, i: u32, size
 {
     if size == 0 {
         return Stored {
-            answer: Outcome::Done,
+            answer: Ok(()),
             window: w,
             table: files::change::put(t, i, 0, Geometry::NULL),
         };
@@ -74,10 +52,10 @@ pub fn shrink(b: u32, n: u32, image: &[u8], w: Lookahead, t: Table, i: u32, size
     let e = t.files[i as usize];
     match ctz::find_in(b, n, image, e.head, e.size, size - 1) {
         Ok(found) => Stored {
-            answer: Outcome::Done,
+            answer: Ok(()),
             window: w,
             table: files::change::put(t, i, size, found.block),
         },
-        Err(_) => left(Outcome::Damaged, w, t),
+        Err(refusal) => left(Err(refusal), w, t),
     }
 }

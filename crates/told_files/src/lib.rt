@@ -2,13 +2,12 @@
 #![tactic(auto)]
 
 ghost use Rattle.std.specs.Prelude.{◌≡◌};
-ghost use Rattle.store.specs.Store.{outcome_code};
 ghost use Rattle.told_files.specs.Contents.{read_told, placed_told, stored_told};
 
 use files::Table;
 use layout::Refusal;
 use reading::Part;
-use store::{Outcome, Stored};
+use store::Stored;
 use window::Lookahead;
 
 // How many bytes were read.
@@ -66,29 +65,24 @@ pub struct TidStore {
     pub table: Table,
 }
 
-// 01's number for an outcome.
-fn outcome_code(answer: Outcome) -> i32
-    ensures { result ≡ outcome_code answer }
-{
-    match answer {
-        Outcome::Done => 0,
-        Outcome::Missing => -2,
-        Outcome::TooLarge => -27,
-        Outcome::Full => -28,
-        Outcome::Damaged => -84,
-        Outcome::Refused => -22,
-    }
-}
-
 pub fn stored_told(s: Stored) -> TidStore
     ensures { result ≡ stored_told s }
 {
-    let answer = s.answer;
-    let window = s.window;
-    let table = s.table;
-    TidStore {
-        code: outcome_code(answer),
-        window: window,
-        table: table,
+    let Stored {
+        answer,
+        window,
+        table,
+    } = s;
+    match answer {
+        Ok(()) => TidStore {
+            code: 0,
+            window,
+            table,
+        },
+        Err(refusal) => TidStore {
+            code: refusal.code(),
+            window,
+            table,
+        },
     }
 }

@@ -1,11 +1,10 @@
 -- The answers of the table calls as they are exported: 01's number and values for each case.
 use Rattle.std.specs.Prelude.{Result, Ok, Err, [], ℕ}
 use Rattle.layout.specs.declared.Refusal.{Refusal}
-use Rattle.layout.specs.Refusals.{refusal_code}
+use Rattle.layout.specs.Refusals.{refusal_code, answer_code}
 use Rattle.layout.specs.Numbers.{accepted}
 use Rattle.files.specs.declared.Table.{Table}
 use Rattle.files.specs.declared.change.Changed.{Changed}
-use Rattle.files.specs.Change.{change_code}
 use Rattle.files.specs.Table.{table_of}
 use Rattle.told_tables.specs.declared.TidTable.{TidTable}
 use Rattle.told_tables.specs.declared.TidSize.{TidSize}
@@ -14,7 +13,7 @@ use Rattle.told_tables.specs.declared.TidSave.{TidSave}
 
 -- on a refusal the table is as it came
 abbrev pub changed_told : Changed → TidTable
-changed_told c = record { code = change_code c.answer; table = c.table }
+changed_told c = record { code = answer_code c.answer; table = c.table }
 
 abbrev pub sized_told : Result ℕ Refusal → TidSize
 sized_told (Ok size) = record { code = accepted; size = size }

@@ -2,13 +2,11 @@
 use Rattle.std.specs.Prelude.{Result, Ok, Err}
 use Rattle.layout.specs.declared.Refusal.{Refusal}
 use Rattle.layout.specs.Refusals.{refusal_code}
-use Rattle.layout.specs.Numbers.{accepted, invalid, no_space, damaged_card}
+use Rattle.layout.specs.Numbers.{accepted}
 use Rattle.window.specs.declared.Lookahead.{Lookahead}
 use Rattle.window.specs.declared.Windowed.{Windowed}
 use Rattle.window.specs.Allocate.{Answer, Allocated}
-use Rattle.grow.specs.declared.Growth.{Growth}
-use Rattle.grow.specs.declared.Growth.TheVariants as growth
-use Rattle.grow.specs.Extend.{GrowOut}
+use Rattle.grow.specs.Extend.{Growth, GrowOut}
 use Rattle.told_windows.specs.declared.TidWindow.{TidWindow}
 use Rattle.told_windows.specs.declared.TidAlloc.{TidAlloc}
 use Rattle.told_windows.specs.declared.TidExtend.{TidExtend}
@@ -29,11 +27,12 @@ alloc_told (Err r) w = record { code = refusal_code r; block = 0; window = w }
 abbrev pub allocated_told : Allocated → TidAlloc
 allocated_told a = alloc_told a.answer a.window
 
-abbrev pub grew_told : Growth → Lookahead → TidExtend
-grew_told (growth.Grown block offset) w = record { code = accepted; block = block; offset = offset; window = w }
-grew_told growth.Full w = record { code = no_space; block = 0; offset = 0; window = w }
-grew_told growth.Damaged w = record { code = damaged_card; block = 0; offset = 0; window = w }
-grew_told growth.Refused w = record { code = invalid; block = 0; offset = 0; window = w }
+abbrev pub growth_told : Growth → Lookahead → TidExtend
+growth_told (Ok g) w = record { code = accepted; block = g.block; offset = g.offset; window = w }
+growth_told (Err r) w = record { code = refusal_code r; block = 0; offset = 0; window = w }
+
+abbrev pub grew_told : Windowed Growth → TidExtend
+grew_told g = growth_told g.answer g.window
 
 abbrev pub extend_told : GrowOut Lookahead → TidExtend
-extend_told o = grew_told o.answer o.rest
+extend_told o = growth_told o.answer o.rest

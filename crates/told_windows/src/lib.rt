@@ -4,7 +4,7 @@
 ghost use Rattle.std.specs.Prelude.{◌≡◌};
 ghost use Rattle.told_windows.specs.Windows.{replied_told, allocated_told, grew_told};
 
-use grow::{Grew, Growth};
+use grow::Grown;
 use layout::Refusal;
 use window::{Lookahead, Windowed};
 
@@ -66,35 +66,22 @@ pub struct TidExtend {
     pub window: Lookahead,
 }
 
-pub fn grew_told(a: Grew) -> TidExtend
-    ensures { result ≡ grew_told a.answer a.window }
+pub fn grew_told(grew: Windowed<Result<Grown, Refusal>>) -> TidExtend
+    ensures { result ≡ grew_told grew }
 {
-    let answer = a.answer;
-    let window = a.window;
-    match answer {
-        Growth::Grown { block, offset } => TidExtend {
+    let window = grew.window;
+    match grew.answer {
+        Ok(Grown { block, offset }) => TidExtend {
             code: 0,
-            block: block,
-            offset: offset,
-            window: window,
+            block,
+            offset,
+            window,
         },
-        Growth::Full => TidExtend {
-            code: -28,
+        Err(refusal) => TidExtend {
+            code: refusal.code(),
             block: 0,
             offset: 0,
-            window: window,
-        },
-        Growth::Damaged => TidExtend {
-            code: -84,
-            block: 0,
-            offset: 0,
-            window: window,
-        },
-        Growth::Refused => TidExtend {
-            code: -22,
-            block: 0,
-            offset: 0,
-            window: window,
+            window,
         },
     }
 }

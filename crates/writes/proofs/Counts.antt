@@ -9,20 +9,21 @@ use native.Mathlib.Omega.{arith}
 use borrow.Author.Tests.{eq-eqb, ne_eqb}
 use lib.Dec.{ltb}
 use lib.ListN.{length, drop, length-take}
+use Rattle.std.specs.Prelude.{Err}
 use Rattle.span.specs.Words.{bytes32}
 use Rattle.span.proofs.Words.{length_bytes32}
 use Rattle.layout.specs.Layout.{pointers, start, index_at, offset_at}
 use Rattle.layout.proofs.Laws.{pointers_zero}
 use Rattle.layout.proofs.Places.{offset_inside, offset_of, next_place, Same, Next}
 use Rattle.layout.proofs.InBlock.{InBlock}
+use Rattle.layout.specs.declared.Refusal.TheVariants as refusal
 use Rattle.card.specs.Card.{pointer}
 use Rattle.card.specs.inner.Cards.{CardFacts}
 use Rattle.health.specs.Health.{refuses_erase, refuses_program}
 use Rattle.device.specs.Device.{stored, wiped}
 use Rattle.device.specs.inner.Bounds.{spot}
 use Rattle.trials.specs.Loop.{Took, Block, None, Bad}
-use Rattle.grow.specs.declared.Growth.TheVariants.{Grown, Full, Damaged}
-use Rattle.grow.specs.Extend.{GrowOut}
+use Rattle.grow.specs.Extend.{grown_at, GrowOut}
 use Rattle.grow.specs.inner.Grow.{part, pointers_of, link_of, spoils, grow_of}
 use Rattle.writes.proofs.Cells.{stored_card, stored_other, cell}
 use Rattle.writes.proofs.Index.{in_block, roomy}
@@ -55,7 +56,7 @@ module _ (B N k : ℕ) where
 record Tried {W : Type 0} (B N : ℕ) (ks : W) (img : List ℕ) (k off : ℕ) (o : GrowOut W) : Type 0 where
   only : Only B N k img o.image
   rest : o.rest ≡ ks
-  answer : (o.answer ≡ Grown k off) ⊎ (o.answer ≡ Damaged)
+  answer : (o.answer ≡ grown_at k off) ⊎ (o.answer ≡ Err refusal.Damaged)
 
 module _ {W : Type 0} (B N : ℕ) (ks : W) (k : ℕ) where
   points : (m off x cur : ℕ) (img : List ℕ) → CardFacts B N (length img) → 4 * (x + m) ≤ B → Tried B N ks img k off (pointers_of m B N k off x cur img ks)
@@ -76,7 +77,7 @@ module _ {W : Type 0} (B N : ℕ) (ks : W) (k : ℕ) where
   links : (head : ℕ) (img : List ℕ) → CardFacts B N (length img) → (s : ℕ) → s < 2 ^ 32 → Tried B N ks img k (offset_at B s) (link_of B N k head s img ks)
   unfolding link_of
   links head img c zero l =
-      record { only = none_of B N k img c; rest = refl; answer = inl (ap (Grown k) (sym (offset_of B 0 0 (at_zero B) ∙ omega (arith, pointers_zero)))) }
+      record { only = none_of B N k img c; rest = refl; answer = inl (ap (grown_at k) (sym (offset_of B 0 0 (at_zero B) ∙ omega (arith, pointers_zero)))) }
   links head img c (suc p) l = go (ltb head N) refl (next_place B p ip)
     where
       ip : InBlock B p (index_at B p)
@@ -90,7 +91,7 @@ module _ {W : Type 0} (B N : ℕ) (ks : W) (k : ℕ) where
           (record {
             only = store_only B N k 0 (part B head 0 (suc (offset_at B p)) img) img c (omega (arith, part_short B head 0 (suc (offset_at B p)) img, offset_inside B p ip));
             rest = refl;
-            answer = inl (ap (Grown k) (sym w.offset));
+            answer = inl (ap (grown_at k) (sym w.offset));
           })
       go true e (inr w) =
           let i = suc (index_at B p) in
@@ -112,7 +113,7 @@ module _ {W : Type 0} (B N : ℕ) (health : List ℕ) (tries : W → ℕ) (alloc
     (al : Counter B N health tries alloc L Ok goods End) where
   -- a block was grown, which is none of L
   pub record Gets (w : W) (s k : ℕ) (o : GrowOut W) : Type 0 where
-    pub answer : o.answer ≡ Grown k (offset_at B s)
+    pub answer : o.answer ≡ grown_at k (offset_at B s)
     pub low : k < N
     pub mine : (k' : ℕ) → L k' → k ≢ k'
     pub card : CardFacts B N (length o.image)
@@ -123,8 +124,8 @@ module _ {W : Type 0} (B N : ℕ) (health : List ℕ) (tries : W → ℕ) (alloc
 
   -- how a growth ends, on any list
   pub data Grew (m : ℕ) (w : W) (s : ℕ) (o : GrowOut W) : Type 0 where
-    hurt : o.answer ≡ Damaged → Grew m w s o
-    none : o.answer ≡ Full → (tries w < m → (goods w ≡ 0) × End o.rest o.image) → Grew m w s o
+    hurt : o.answer ≡ Err refusal.Damaged → Grew m w s o
+    none : o.answer ≡ Err refusal.NoSpace → (tries w < m → (goods w ≡ 0) × End o.rest o.image) → Grew m w s o
     gets : (k : ℕ) → Gets w s k o → Grew m w s o
 
   -- a block that was passed
@@ -170,7 +171,7 @@ module _ {W : Type 0} (B N : ℕ) (health : List ℕ) (tries : W → ℕ) (alloc
             last : refuses_erase health k ≡ false → (o : GrowOut W) → Tried B N w' (wiped B img k) k (offset_at B s) o → Grew (suc m) w s o
             last q o t = end t.answer
               where
-                end : (o.answer ≡ Grown k (offset_at B s)) ⊎ (o.answer ≡ Damaged) → Grew (suc m) w s o
+                end : (o.answer ≡ grown_at k (offset_at B s)) ⊎ (o.answer ≡ Err refusal.Damaged) → Grew (suc m) w s o
                 end (inr a) = hurt a
                 end (inl a) =
                     gets k (record {

@@ -6,13 +6,14 @@ use mathlib.Core.List.{List, ◌∷◌}
 use Prim.Native.Nat.{ℕ, zero, suc, ◌-◌, ◌<◌}
 use native.Mathlib.Omega.{arith}
 use lib.ListN.{length, replicate, length-replicate}
+use Rattle.std.specs.Prelude.{Err}
 use Rattle.layout.specs.Layout.{start, index_at, offset_at}
+use Rattle.layout.specs.declared.Refusal.TheVariants as refusal
 use Rattle.card.specs.inner.Cards.{CardFacts}
 use Rattle.health.specs.Health.{refuses_erase}
 use Rattle.device.specs.Device.{wiped}
 use Rattle.trials.specs.Loop.{Took, Block, None, Bad}
-use Rattle.grow.specs.declared.Growth.TheVariants.{Grown, Full}
-use Rattle.grow.specs.Extend.{GrowOut}
+use Rattle.grow.specs.Extend.{grown_at, GrowOut}
 use Rattle.grow.specs.inner.Grow.{spoils, grow_of}
 use Rattle.writes.proofs.Cells.{stored_card, stored_other, cell}
 use Rattle.writes.proofs.Holds.{moves, Holds}
@@ -36,7 +37,7 @@ module _ {W : Type 0} (B N : ℕ) (health : List ℕ) (tries : W → ℕ) (alloc
     (al : Allocator B N tries alloc L Ok) where
   -- a block was grown: k, which was not known; mid is the image after the erases
   pub record Got (out img : List ℕ) (f : ℕ → ℕ) (s : ℕ) (o : GrowOut W) (out' : List ℕ) (k : ℕ) : Type 0 where
-    pub answer : o.answer ≡ Grown k (offset_at B s)
+    pub answer : o.answer ≡ grown_at k (offset_at B s)
     pub low : k < N
     pub fresh : In k out'
     pub mine : (k' : ℕ) → MustStand L out k' → k ≢ k'
@@ -51,7 +52,7 @@ module _ {W : Type 0} (B N : ℕ) (health : List ℕ) (tries : W → ℕ) (alloc
     pub stays : Stays B (MustStand L out) img o.image
     pub ok : Ok o.rest out' o.image
     pub less : (k : ℕ) → In k out → In k out'
-    pub end : (o.answer ≡ Full) ⊎ ((k : ℕ) × Got out img f s o out' k)
+    pub end : (o.answer ≡ Err refusal.NoSpace) ⊎ ((k : ℕ) × Got out img f s o out' k)
 
   module _ (f : ℕ → ℕ) (head s : ℕ) where
     -- a block that was passed
@@ -70,7 +71,7 @@ module _ {W : Type 0} (B N : ℕ) (health : List ℕ) (tries : W → ℕ) (alloc
         known (inl a) = inl a
         known (inr a) = inr (inr a)
 
-        go : (o.answer ≡ Full) ⊎ ((k' : ℕ) × Got (k ∷ out) img₁ f s o g.out' k') → (o.answer ≡ Full) ⊎ ((k' : ℕ) × Got out img f s o g.out' k')
+        go : (o.answer ≡ Err refusal.NoSpace) ⊎ ((k' : ℕ) × Got (k ∷ out) img₁ f s o g.out' k') → (o.answer ≡ Err refusal.NoSpace) ⊎ ((k' : ℕ) × Got out img f s o g.out' k')
         go (inl a) = inl a
         go (inr q) =
             let v = q.1 in

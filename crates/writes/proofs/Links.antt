@@ -18,8 +18,7 @@ use Rattle.card.specs.Card.{pointer}
 use Rattle.card.specs.inner.Cards.{CardFacts}
 use Rattle.device.specs.Device.{stored}
 use Rattle.device.specs.inner.Bounds.{spot}
-use Rattle.grow.specs.declared.Growth.TheVariants.{Grown}
-use Rattle.grow.specs.Extend.{GrowOut}
+use Rattle.grow.specs.Extend.{grown_at, GrowOut}
 use Rattle.grow.specs.inner.Grow.{part, pointers_of, link_of}
 use Rattle.writes.proofs.Cells.{stored_card, stored_other, stored_out, stored_in_lem, part_length, part_at, pointer_same, pointer_stored, cell}
 use Rattle.writes.proofs.Index.{in_block, roomy, start_lt, offset_is, pow_le, pow_next}
@@ -28,13 +27,13 @@ use Rattle.writes.proofs.Grown.{Made}
 
 -- what linking block k to a list of s bytes leaves: k is the block of the next position, whose offset is answered; the allocator is untouched
 pub record Linked {W : Type 0} (B N : ℕ) (ks : W) (img : List ℕ) (f : ℕ → ℕ) (k s : ℕ) (o : GrowOut W) : Type 0 where
-  pub answer : o.answer ≡ Grown k (offset_at B s)
+  pub answer : o.answer ≡ grown_at k (offset_at B s)
   pub rest : o.rest ≡ ks
   pub card : CardFacts B N (length o.image)
   pub made : Made B img o.image f k (index_at B s) s
 
 record Pointed {W : Type 0} (B N : ℕ) (ks : W) (img : List ℕ) (f : ℕ → ℕ) (k i x m off : ℕ) (o : GrowOut W) : Type 0 where
-  answer : o.answer ≡ Grown k off
+  answer : o.answer ≡ grown_at k off
   rest : o.rest ≡ ks
   card : CardFacts B N (length o.image)
   others : (k' o' : ℕ) → k ≢ k' → o' < B → cell B o.image k' o' ≡ cell B img k' o'
@@ -102,11 +101,11 @@ module _ {W : Type 0} (B N : ℕ) (ks : W) (f : ℕ → ℕ) (k s : ℕ) (low : 
       (rw (zero-add o) at i) ∙ part_at B a 0 n img o l ∙ ap (cell B img a) (zero-add o)
 
   module _ (head : ℕ) (img : List ℕ) (c : CardFacts B N (length img)) (h : Holds B N img f s) where
-    link_empty : s ≡ 0 → (o : GrowOut W) → o.answer ≡ Grown k 0 → o.rest ≡ ks → o.image ≡ img → Linked B N ks img f k s o
+    link_empty : s ≡ 0 → (o : GrowOut W) → o.answer ≡ grown_at k 0 → o.rest ≡ ks → o.image ≡ img → Linked B N ks img f k s o
     link_empty z o a r e =
         let i0 : index_at B s ≡ 0 = index_zero s z in
         record {
-          answer = a ∙ ap (Grown k) (sym (offset_of B s 0 i0 ∙ omega (arith, pointers_zero)));
+          answer = a ∙ ap (grown_at k) (sym (offset_of B s 0 i0 ∙ omega (arith, pointers_zero)));
           rest = r;
           card = rw e c;
           made = record {
@@ -120,7 +119,7 @@ module _ {W : Type 0} (B N : ℕ) (ks : W) (f : ℕ → ℕ) (k s : ℕ) (low : 
         index_zero s z = rw z (at_zero B)
 
     -- an incomplete last block is copied
-    link_copied : (p : ℕ) → s ≡ suc p → f (index_at B p) ≡ head → Same B p → (o : GrowOut W) → o.answer ≡ Grown k (suc (offset_at B p)) → o.rest ≡ ks
+    link_copied : (p : ℕ) → s ≡ suc p → f (index_at B p) ≡ head → Same B p → (o : GrowOut W) → o.answer ≡ grown_at k (suc (offset_at B p)) → o.rest ≡ ks
         → o.image ≡ stored B img (spot k 0) (part B head 0 (suc (offset_at B p)) img) → Linked B N ks img f k s o
     link_copied p z t w o a r e =
         let sized = c.sized in
@@ -135,7 +134,7 @@ module _ {W : Type 0} (B N : ℕ) (ks : W) (f : ℕ → ℕ) (k s : ℕ) (low : 
         let cp : (o' : ℕ) → o' < n → cell B o.image k o' ≡ cell B img (f (index_at B p)) o' = λ o' l. rw (e, t) (copied head n img c hl nb o' l) in
         let ps = offset_past B p in
         record {
-          answer = a ∙ ap (Grown k) (sym os);
+          answer = a ∙ ap (grown_at k) (sym os);
           rest = r;
           card = rw e (stored_card B k 0 (part B head 0 n img) img N c);
           made = record {
@@ -164,7 +163,7 @@ module _ {W : Type 0} (B N : ℕ) (ks : W) (f : ℕ → ℕ) (k s : ℕ) (low : 
         let cu : 0 < pointers i → head ≡ f (i - 2 ^ 0) = λ l. (sym t ∙ ap f (omega arith)) in
         let r = pointed (pointers i) i 0 head off img c h st (zero-add (pointers i)) cu in
         rw e (record {
-          answer = r.answer ∙ ap (Grown k) (eo ∙ sym (ap (offset_at B) z ∙ w.offset));
+          answer = r.answer ∙ ap (grown_at k) (eo ∙ sym (ap (offset_at B) z ∙ w.offset));
           rest = r.rest;
           card = r.card;
           made = record {

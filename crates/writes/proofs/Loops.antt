@@ -8,11 +8,12 @@ use native.Mathlib.Nat.{le_antisymm}
 use borrow.Author.Tests.{ltb-true, ltb-false}
 use lib.Dec.{ltb}
 use lib.ListN.{length}
+use Rattle.std.specs.Prelude.{Err}
 use Rattle.layout.specs.Layout.{index_at, offset_at}
+use Rattle.layout.specs.declared.Refusal.TheVariants as refusal
 use Rattle.card.specs.inner.Cards.{CardFacts}
 use Rattle.health.specs.Health.{refuses_program}
 use Rattle.trials.specs.Loop.{Took, Written, NoRoom, WriteOut}
-use Rattle.grow.specs.declared.Growth.TheVariants.{Full}
 use Rattle.grow.specs.Extend.{GrowOut}
 use Rattle.grow.specs.inner.Grow.{grow_of}
 use Rattle.old_list.specs.Write.{Job, new, Look}
@@ -49,7 +50,7 @@ module _ {W : Type 0} (look : List ℕ → ℕ → Look) (B N : ℕ) (health : L
         g = growing B N health tries alloc L Ok al f h s (suc (tries w)) w out img st.card st.ok st.holds st.top st.clear
 
         step : (x : Bool) → ltb s (new j) ≡ x
-            → ((next w h s img).answer ≡ Full) ⊎ ((k : ℕ) × Got B N health tries alloc L Ok al out img f s (next w h s img) g.out' k)
+            → ((next w h s img).answer ≡ Err refusal.NoSpace) ⊎ ((k : ℕ) × Got B N health tries alloc L Ok al out img f s (next w h s img) g.out' k)
             → ((w₁ : W) (out₁ img₁ : List ℕ) (f₁ : ℕ → ℕ) (h₁ s₁ : ℕ) → Between B N j L Ok img₀ f₀ w₁ out₁ img₁ f₁ h₁ s₁
             → Ended img₀ f₀ (write_of look tries alloc m health B N j w₁ h₁ s₁ img₁))
             → Ended img₀ f₀ (write_of look tries alloc (suc m) health B N j w h s img)

@@ -1,5 +1,6 @@
 -- Filling one new block: what its two steps leave, and what they ask.
-use Rattle.std.specs.Prelude.{◌≡◌, true, false, List, ℕ, ◌+◌, ◌-◌, min, ◌≤◌, ◌<◌, ltb, length, take, drop}
+use Rattle.std.specs.Prelude.{◌≡◌, true, false, Result, Ok, Err, List, ℕ, ◌+◌, ◌-◌, min, ◌≤◌, ◌<◌, ltb, length, take, drop}
+use Rattle.layout.specs.declared.Refusal.TheVariants.{Damaged}
 use Rattle.layout.specs.Numbers.{size_max}
 use Rattle.card.specs.inner.Cards.{CardFacts}
 use Rattle.health.specs.Health.{refuses_program}
@@ -7,10 +8,10 @@ use Rattle.device.specs.Device.{stored}
 use Rattle.device.specs.inner.Steps.{StepOut, step_of}
 use Rattle.device.specs.inner.Bounds.{Blank, spot}
 use Rattle.files.specs.declared.Entry.{Entry}
+use Rattle.grow.specs.declared.Failed.{Failed}
+use Rattle.grow.specs.declared.Failed.TheVariants as failed
 use Rattle.grow.specs.inner.Grow.{part}
 use Rattle.old_list.specs.Write.{zeros, Job, over, new, Look, job_of}
-use Rattle.new_block.specs.declared.Filled.{Filled}
-use Rattle.new_block.specs.declared.Filled.TheVariants.{Done, Spoiled, Damaged}
 
 -- Block k holds the file up to position s, at offset off; n more positions go into it. First the gap's zeros, then the data:
 unfoldable pub fronted : ℕ → ℕ → ℕ → ℕ → ℕ → ℕ → List ℕ → List ℕ → List ℕ
@@ -25,6 +26,13 @@ tailed B k off s n ob e img = stored B img (spot k (off + (e - s))) (part B ob (
 abbrev pub front_of : List ℕ → ℕ → ℕ → ℕ → ℕ → ℕ → ℕ → List ℕ → List ℕ → StepOut
 front_of health B k off s n pos src img = step_of (refuses_program health k) img (fronted B k off s n pos src img)
 
+-- what filling a block answers: the size so far, that the block refuses, or -84
+abbrev pub Filled : Type 0
+Filled = Result ℕ Failed
+
+abbrev pub lost : Filled
+lost = Err (failed.Refused Damaged)
+
 -- what filling a block leaves
 pub record FillOut : Type 0 where
   pub answer : Filled
@@ -38,10 +46,10 @@ share B j off s = min (new j - s) (B - off)
 unfoldable pub tail_of : (List ℕ → ℕ → Look) → ℕ → ℕ → ℕ → ℕ → ℕ → ℕ → List ℕ → FillOut
 tail_of look B k off s m past img =
     elim (ltb (past - s) m) [
-      | false ↦ record { answer = Done (s + m); image = img }
+      | false ↦ record { answer = Ok (s + m); image = img }
       | true ↦ elim (look img (s + (past - s))) [
-        | Look.Lost ↦ record { answer = Damaged; image = img }
-        | Look.Found ob ↦ record { answer = Done (s + m); image = tailed B k off s m ob past img }
+        | Look.Lost ↦ record { answer = lost; image = img }
+        | Look.Found ob ↦ record { answer = Ok (s + m); image = tailed B k off s m ob past img }
       ]
     ]
 
@@ -49,7 +57,7 @@ tail_of look B k off s m past img =
 unfoldable pub fill_of : (List ℕ → ℕ → Look) → List ℕ → ℕ → Job → ℕ → ℕ → ℕ → List ℕ → FillOut
 fill_of look health B j k off s img =
     elim (refuses_program health k) [
-      | true ↦ record { answer = Spoiled; image = img }
+      | true ↦ record { answer = Err failed.Spoiled; image = img }
       | false ↦ tail_of look B k off s (share B j off s) (over j) (fronted B k off s (share B j off s) j.pos j.src img)
     ]
 

@@ -1,61 +1,54 @@
 -- `new_list::write_on` meets its contract: what is left to do equals the whole write (`Rest`), and each growth lowers the checkpoint count. Assumes nothing.
-use Rattle.new_list.proofs.Goes.{wrote_as, rest_start, rest_extends, rest_fills, falls, goes_on, moves_on, ends_done, ends_full, ends_damaged, ends_refused, ends_lost, loop_new, loop_end}
+use mathlib.Core.Path.{ap, ◌∙◌}
+use Rattle.std.specs.Prelude.{Err}
+use Rattle.new_list.proofs.Goes.{rest_start, rest_extends, rest_fills, falls, goes_on, moves_on, ends_done, ends_stopped, ends_lost, loop_new, loop_end}
 use Rattle.new_list.proofs.write_on.Goals as goal
 
-pub loop-s-init : goal.loop-s-init
-loop-s-init c = rest_start c.requires _ _
+pub loop-list-init : goal.loop-list-init
+loop-list-init c = rest_start c.requires _ _
 
 pub extend_in-grew-requires : goal.extend_in-grew-requires
 extend_in-grew-requires c =
-    rest_extends c.requires c.loop-s.invariant (loop_new c.requires c.max-new.ensures c.loop-s-test.true)
+    rest_extends c.requires c.loop-list.invariant (loop_new c.requires c.max-new.ensures c.loop-list-test.true)
 
-pub fill_block-filled-requires : goal.fill_block-filled-requires
-fill_block-filled-requires c =
-    rest_fills c.requires c.loop-s.invariant (loop_new c.requires c.max-new.ensures c.loop-s-test.true) c.extend_in-grew.ensures
-    c.in-Grown.is c.extend_in-grew.auto.image
+pub fill_block-requires : goal.fill_block-requires
+fill_block-requires c =
+    rest_fills c.requires c.loop-list.invariant (loop_new c.requires c.max-new.ensures c.loop-list-test.true) c.extend_in-grew.ensures
+    c.in-Ok.is c.extend_in-grew.auto.image
 
-pub loop-s-smaller-in-Done : goal.loop-s-smaller-in-Done
-loop-s-smaller-in-Done c =
-    falls c.requires c.loop-s.invariant (loop_new c.requires c.max-new.ensures c.loop-s-test.true) c.extend_in-grew.ensures
-    c.in-Grown.is
+pub loop-list-smaller-in-Ok-fill_block : goal.loop-list-smaller-in-Ok-fill_block
+loop-list-smaller-in-Ok-fill_block c =
+    falls c.requires c.loop-list.invariant (loop_new c.requires c.max-new.ensures c.loop-list-test.true) c.extend_in-grew.ensures
+    c.in-Ok.is
 
-pub loop-s-preserved-in-Done : goal.loop-s-preserved-in-Done
-loop-s-preserved-in-Done c =
-    goes_on c.requires c.loop-s.invariant (loop_new c.requires c.max-new.ensures c.loop-s-test.true) c.extend_in-grew.ensures
-    c.in-Grown.is c.fill_block-filled.ensures c.extend_in-grew.auto.image
-    c.fill_block-filled.auto.image _ c.in-Done.is
+pub loop-list-preserved-in-Ok-fill_block : goal.loop-list-preserved-in-Ok-fill_block
+loop-list-preserved-in-Ok-fill_block c =
+    goes_on c.requires c.loop-list.invariant (loop_new c.requires c.max-new.ensures c.loop-list-test.true) c.extend_in-grew.ensures
+    c.in-Ok.is c.fill_block.ensures c.extend_in-grew.auto.image
+    c.fill_block.auto.image _ c.in-Ok-fill_block.is
 
-pub loop-s-smaller : goal.loop-s-smaller
-loop-s-smaller c =
-    falls c.requires c.loop-s.invariant (loop_new c.requires c.max-new.ensures c.loop-s-test.true) c.extend_in-grew.ensures
-    c.in-Grown.is
+pub loop-list-smaller : goal.loop-list-smaller
+loop-list-smaller c =
+    falls c.requires c.loop-list.invariant (loop_new c.requires c.max-new.ensures c.loop-list-test.true) c.extend_in-grew.ensures
+    c.in-Ok.is
 
-pub loop-s-preserved : goal.loop-s-preserved
-loop-s-preserved c =
-    moves_on c.requires c.loop-s.invariant (loop_new c.requires c.max-new.ensures c.loop-s-test.true) c.extend_in-grew.ensures
-    c.in-Grown.is c.fill_block-filled.ensures c.extend_in-grew.auto.image
-    c.fill_block-filled.auto.image c.in-Spoiled.is
+pub loop-list-preserved : goal.loop-list-preserved
+loop-list-preserved c =
+    moves_on c.requires c.loop-list.invariant (loop_new c.requires c.max-new.ensures c.loop-list-test.true) c.extend_in-grew.ensures
+    c.in-Ok.is c.fill_block.ensures c.extend_in-grew.auto.image
+    c.fill_block.auto.image (c.in-Err-Spoiled.is ∙ ap Err c.in-Err-Spoiled.field-0-is)
 
-pub returns-in-Damaged-filled : goal.returns-in-Damaged-filled
-returns-in-Damaged-filled c =
-    wrote_as c.ended.ensures (ends_lost c.requires c.loop-s.invariant (loop_new c.requires c.max-new.ensures c.loop-s-test.true) c.extend_in-grew.ensures
-    c.in-Grown.is c.fill_block-filled.ensures c.in-Damaged-filled.is)
+pub returns-in-Err-Refused : goal.returns-in-Err-Refused
+returns-in-Err-Refused c =
+    rw c.in-Err-Refused.refusal-is
+    (ends_lost c.requires c.loop-list.invariant (loop_new c.requires c.max-new.ensures c.loop-list-test.true) c.extend_in-grew.ensures
+    c.in-Ok.is c.fill_block.ensures _ (c.in-Err-Refused.is ∙ ap Err c.in-Err-Refused.field-0-is))
 
-pub returns-in-Full : goal.returns-in-Full
-returns-in-Full c =
-    wrote_as c.ended-in-Full.ensures (ends_full c.requires c.loop-s.invariant (loop_new c.requires c.max-new.ensures c.loop-s-test.true)
-    c.extend_in-grew.ensures c.in-Full.is)
-
-pub returns-in-Damaged : goal.returns-in-Damaged
-returns-in-Damaged c =
-    wrote_as c.ended-in-Damaged.ensures (ends_damaged c.requires c.loop-s.invariant (loop_new c.requires c.max-new.ensures c.loop-s-test.true)
-    c.extend_in-grew.ensures c.in-Damaged.is)
-
-pub returns-in-Refused : goal.returns-in-Refused
-returns-in-Refused c =
-    wrote_as c.ended-in-Refused.ensures (ends_refused c.requires c.loop-s.invariant (loop_new c.requires c.max-new.ensures c.loop-s-test.true)
-    c.extend_in-grew.ensures c.in-Refused.is)
+pub returns-in-Err : goal.returns-in-Err
+returns-in-Err c =
+    ends_stopped c.requires c.loop-list.invariant (loop_new c.requires c.max-new.ensures c.loop-list-test.true)
+    c.extend_in-grew.ensures _ c.in-Err.is
 
 pub returns : goal.returns
 returns c =
-    wrote_as c.ended-2.ensures (ends_done c.requires c.loop-s.invariant (loop_end c.requires c.max-new.ensures c.loop-s-test.false))
+    ends_done c.requires c.loop-list.invariant (loop_end c.requires c.max-new.ensures c.loop-list-test.false)

@@ -2,8 +2,8 @@
 use Rattle.new_list.proofs.Goes.{Rest}
 use Rattle.new_list.proofs.write_on.Given as goal
 
-abbrev pub invariant-loop-s : goal.invariant-loop-s
-invariant-loop-s l = Rest l.b l.n l.l l.health l.t l.e l.pos l.«data» l.initial.window l.initial.h l.initial.s l.initial.image l.window l.h l.s l.image
+abbrev pub invariant-loop-list : goal.invariant-loop-list
+invariant-loop-list l = Rest l.b l.n l.l l.health l.t l.e l.pos l.«data» l.initial.window l.initial.list.head l.initial.list.size l.initial.image l.window l.list.head l.list.size l.image
 
-abbrev pub decreases-loop-s : goal.decreases-loop-s
-decreases-loop-s l = l.window.ckpoint
+abbrev pub decreases-loop-list : goal.decreases-loop-list
+decreases-loop-list l = l.window.ckpoint

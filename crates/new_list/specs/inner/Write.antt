@@ -1,8 +1,9 @@
 -- A write of at least one byte by growths, each new block filled before the next growth; over any allocator and lookup.
-use Rattle.std.specs.Prelude.{true, false, List, ℕ, zero, suc, ◌+◌, ◌-◌, min, ltb}
+use Rattle.std.specs.Prelude.{true, false, Ok, Err, List, ℕ, zero, suc, ◌+◌, ◌-◌, min, ltb}
+use Rattle.layout.specs.declared.Refusal.{Refusal}
+use Rattle.layout.specs.declared.Refusal.TheVariants.{Missing, TableFull, Exists, Invalid, TooLarge, NoSpace, Damaged}
 use Rattle.health.specs.Health.{refuses_program}
-use Rattle.trials.specs.Loop.{Took, Written, NoRoom, Corrupt, WriteOut, write_out}
-use Rattle.grow.specs.declared.Growth.TheVariants as growth
+use Rattle.trials.specs.Loop.{Took, Writing, Written, NoRoom, Corrupt, WriteOut, write_out}
 use Rattle.grow.specs.Extend.{GrowOut}
 use Rattle.grow.specs.inner.Grow.{grow_of}
 use Rattle.old_list.specs.Write.{Job, over, new, kept, Look, Found, Lost, wanted, looked, first_head}
@@ -19,14 +20,22 @@ filled_of look B j k off s n img w go =
       ]
     ]
 
+-- why a write stops at a growth: behind the tests it answers -28 or -84
+abbrev pub stopped : Refusal → Writing
+stopped NoSpace = NoRoom
+stopped Missing = Corrupt
+stopped TableFull = Corrupt
+stopped Exists = Corrupt
+stopped Invalid = Corrupt
+stopped TooLarge = Corrupt
+stopped Damaged = Corrupt
+
 -- what follows a growth
 unfoldable pub grown_of : {W : Type 0} → GrowOut W → (ℕ → ℕ → WriteOut W) → WriteOut W
 grown_of o go =
     elim o.answer [
-      | growth.Grown k off ↦ go k off
-      | growth.Full ↦ write_out NoRoom o.image o.rest
-      | growth.Damaged ↦ write_out Corrupt o.image o.rest
-      | growth.Refused ↦ write_out Corrupt o.image o.rest
+      | Ok g ↦ go g.block g.offset
+      | Err r ↦ write_out (stopped r) o.image o.rest
     ]
 
 -- From the list (h, s) on, until the new size is reached. A program refused after a growth from size 0 moves on to another block.

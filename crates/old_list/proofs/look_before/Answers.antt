@@ -4,7 +4,7 @@ use Prim.Native.Nat.{◌-◌}
 use native.Mathlib.Omega.{arith}
 use Rattle.layout.proofs.Served.{served}
 use Rattle.ctz.proofs.Room.{first_asked}
-use Rattle.old_list.specs.declared.Looked.TheVariants as looked-as
+use Rattle.std.specs.Prelude.{Ok}
 use Rattle.old_list.specs.inner.Lookups.{looked_of}
 use Rattle.old_list.proofs.Looks.{look_headless, look_next, look_next_lost}
 use Rattle.old_list.proofs.look_before.Goals as goal
@@ -27,6 +27,6 @@ pub returns-then-q-e : goal.returns-then-q-e
 returns-then-q-e c =
     let a = c.args in
     let k = c.pointer-block.ensures in
-    ap looked-as.Block k
+    ap Ok k
     ∙ sym (ap looked_of (look_next a.n a.e a.image.now (served c.requires.0.card.sized (omega arith)) c.requires.2
     c.if-q-e.true c.if-n-e.false (omega (arith, k, c.if-n-block.false))))

@@ -6,7 +6,7 @@ use Rattle.old_list.specs.inner.Lookups.{tail_wanted, look_in}
 use Rattle.old_list.proofs.tail_looked.Given as goal
 
 abbrev pub invariant-loop-p : goal.invariant-loop-p
-invariant-loop-p l = looked ((look_in l.b l.n l.e) l.image) (tail_wanted l.b l.initial.p l.size) ≡ looked ((look_in l.b l.n l.e) l.image) (tail_wanted l.b l.p l.size)
+invariant-loop-p l = looked ((look_in l.b l.n l.e) l.image) (tail_wanted l.b l.initial.p l.e.size) ≡ looked ((look_in l.b l.n l.e) l.image) (tail_wanted l.b l.p l.e.size)
 
 abbrev pub decreases-loop-p : goal.decreases-loop-p
-decreases-loop-p l = l.size - l.p
+decreases-loop-p l = l.e.size - l.p

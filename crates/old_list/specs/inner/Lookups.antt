@@ -1,21 +1,27 @@
 -- The lookups of a write: what the inner functions answer and ask.
-use Rattle.std.specs.Prelude.{Bool, true, false, List, [], ◌∷◌, ◌++◌, ◌≡◌, ℕ, ◌+◌, ◌-◌, ◌<◌, ltb}
+use Rattle.std.specs.Prelude.{Bool, true, false, Result, Ok, Err, List, [], ◌∷◌, ◌++◌, ◌≡◌, ℕ, ◌+◌, ◌-◌, ◌<◌, ltb}
 use Rattle.layout.specs.Layout.{index_at, start}
+use Rattle.layout.specs.declared.Refusal.{Refusal}
+use Rattle.layout.specs.declared.Refusal.TheVariants.{Damaged}
 use Rattle.layout.specs.inner.Served.{block_list}
 use Rattle.card.specs.inner.Cards.{card_with}
 use Rattle.ctz.specs.Lookup.{walk_to}
 use Rattle.files.specs.declared.Entry.{Entry}
-use Rattle.old_list.specs.declared.Looked.{Looked}
-use Rattle.old_list.specs.declared.Looked.TheVariants as looked-as
 use Rattle.old_list.specs.Write.{Look, look_of, when, starts, looked, first_head}
 
 -- a lookup in the list of a file
 abbrev pub look_in : ℕ → ℕ → Entry → List ℕ → ℕ → Look
 look_in B N e image p = look_of (walk_to (card_with B N image) (block_list e.head e.size) p)
 
-abbrev pub looked_of : Look → Looked
-looked_of (Look.Found k) = looked-as.Block k
-looked_of Look.Lost = looked-as.Lost
+-- what the code answers for it
+abbrev pub looked_of : Look → Result ℕ Refusal
+looked_of (Look.Found k) = Ok k
+looked_of Look.Lost = Err Damaged
+
+-- and where it looks for several
+abbrev pub found_all : Bool → Result (Unit {0}) Refusal
+found_all true = Ok tt
+found_all false = Err Damaged
 
 -- where a write looks for what it keeps of the first q bytes: the last kept block, and the one that is copied
 abbrev pub kept_wanted : ℕ → ℕ → List ℕ

@@ -1,17 +1,16 @@
 -- What the parts of the entry points ask.
-use Rattle.std.specs.Prelude.{List, [], ℕ, ◌≤◌, ◌<◌, length}
+use Rattle.std.specs.Prelude.{Result, Ok, Err, List, ℕ, ◌≤◌, ◌<◌, length}
 use Rattle.layout.specs.Numbers.{files_max, size_max}
+use Rattle.layout.specs.Layout.{BlockList}
+use Rattle.layout.specs.declared.Refusal.{Refusal}
 use Rattle.card.specs.inner.Cards.{CardFacts}
 use Rattle.files.specs.declared.Table.{Table}
 use Rattle.files.specs.Table.{file}
+use Rattle.files.specs.Change.{with_list}
 use Rattle.window.specs.declared.Lookahead.{Lookahead}
 use Rattle.alloc.specs.inner.Facts.{Ready}
-use Rattle.trials.specs.Loop.{Writing, Written, NoRoom, Corrupt}
-use Rattle.new_list.specs.declared.Writing as declared
-use Rattle.new_list.specs.declared.Writing.TheVariants as writing
 use Rattle.store.specs.declared.Stored.{Stored}
 use Rattle.store.specs.Asked.{WriteAsked, TruncateAsked}
-use Rattle.store.specs.Store.{written, stored_of}
 
 -- what a call is asked, by its parts
 abbrev pub ask_write : ℕ → ℕ → List ℕ → WriteAsked
@@ -34,12 +33,7 @@ pub record CallAsked (B N l : ℕ) (image health : List ℕ) (w : Lookahead) (t 
   pub slot : i < files_max
   pub most : (file t i).size ≤ size_max
 
--- a definition's answer for the code's
-abbrev pub writing_of : declared.Writing → Writing
-writing_of (writing.Written h s) = Written h s
-writing_of writing.NoRoom = NoRoom
-writing_of writing.Corrupt = Corrupt
-
--- the table changes last; the image is not looked at
-abbrev pub finish_of : Table → ℕ → declared.Writing → Lookahead → Stored
-finish_of t i a w = stored_of (written t i (writing_of a) w [])
+-- the table changes last
+abbrev pub finish_of : Table → ℕ → Result BlockList Refusal → Lookahead → Stored
+finish_of t i (Ok list) w = record { answer = Ok tt; window = w; table = with_list t i list }
+finish_of t i (Err r) w = record { answer = Err r; window = w; table = t }

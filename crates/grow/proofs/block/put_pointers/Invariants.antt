@@ -10,6 +10,3 @@ abbrev pub invariant-loop-x : goal.invariant-loop-x
 invariant-loop-x l = (l.x ≤ l.count) × (length l.image ≡ length l.initial.image)
     × (put_pointers l.health l.b l.n l.k (4 * l.count) l.count 0 l.head l.initial.image ≡ put_pointers l.health l.b l.n l.k (4 * l.count) (l.count - l.x) l.x l.cur l.image)
     × Blank l.b l.k (4 * l.x) (4 * (l.count - l.x)) l.image
-
-abbrev pub decreases-loop-x : goal.decreases-loop-x
-decreases-loop-x l = l.count - l.x

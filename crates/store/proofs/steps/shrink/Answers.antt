@@ -1,6 +1,6 @@
 -- `store::steps::shrink` meets its contract: by the lookup of the last byte that is kept. Assumes nothing.
 use mathlib.Core.Path.{◌∙◌}
-use Rattle.store.proofs.Files.{shrinks_empty, shrinks_found, shrinks_damaged}
+use Rattle.store.proofs.Files.{shrinks_empty, shrinks_found, shrinks_refused}
 use Rattle.store.proofs.steps.shrink.Goals as goal
 
 pub returns-then-size-eq0 : goal.returns-then-size-eq0
@@ -16,4 +16,4 @@ returns-in-Ok c =
 pub returns-in-Err : goal.returns-in-Err
 returns-in-Err c =
     let a = c.args in
-    c.left.ensures ∙ shrinks_damaged a.b a.n a.image.now a.w a.t a.i a.size c.if-size-eq0.false c.find_in.ensures c.in-Err.is
+    c.left.ensures ∙ shrinks_refused a.b a.n a.image.now a.w a.t a.i a.size c.if-size-eq0.false c.find_in.ensures c.in-Err.is

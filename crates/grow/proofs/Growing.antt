@@ -1,6 +1,7 @@
 -- What a growth tells, on any card and list, damaged ones too: the window stays valid; a block that it answers is below N, with room
 -- in it that is erased, and the checkpoint count fell. Assumes nothing.
-use mathlib.Core.Path.{◌≡◌, refl}
+use mathlib.Core.Path.{◌≡◌, refl, ap, ◌∙◌}
+use mathlib.Core.Logic.{◌⊎◌, inl, inr}
 use mathlib.Core.Bool.{Bool, true, false}
 use mathlib.Core.List.{List}
 use Prim.Native.Nat.{ℕ, zero, suc, ◌+◌, ◌-◌, ◌*◌, ◌≤◌, ◌<◌}
@@ -9,13 +10,14 @@ use native.Mathlib.Omega.{arith}
 use borrow.Author.Tests.{ltb-true, ltb-false, eqb-true, eqb-false}
 use lib.Dec.{ltb, eqb}
 use lib.ListN.{length, drop, length-take}
-use Rattle.layout.specs.declared.Refusal.TheVariants as refusal
 use Rattle.span.specs.Words.{bytes32}
 use Rattle.span.proofs.Words.{length_bytes32}
 use Rattle.layout.specs.Layout.{pointers, index_at, offset_at}
 use Rattle.layout.specs.Numbers.{size_max}
 use Rattle.layout.specs.inner.Served.{BlockSized}
 use Rattle.layout.proofs.Served.{wide}
+use Rattle.layout.specs.declared.Refusal.TheVariants as refusal
+use Rattle.layout.specs.declared.Refusal.{Refusal}
 use Rattle.card.specs.Card.{pointer}
 use Rattle.card.specs.inner.Cards.{card_with}
 use Rattle.health.specs.Health.{refuses_erase}
@@ -29,9 +31,8 @@ use Rattle.window.specs.Allocate.{alloc_of, Answer, Allocated}
 use Rattle.window.specs.inner.Facts.{ValidWindow, scope}
 use Rattle.alloc.specs.Visits.{seen_in}
 use Rattle.trials.specs.Loop.{Block}
-use Rattle.grow.specs.declared.Growth.{Growth}
-use Rattle.grow.specs.declared.Growth.TheVariants.{Grown, Full, Damaged}
-use Rattle.grow.specs.Extend.{GrowOut, grow_out}
+use Rattle.grow.specs.declared.Grown.{Grown}
+use Rattle.grow.specs.Extend.{Growth, grown_at, GrowOut, grow_out}
 use Rattle.grow.specs.inner.Grow.{part, pointers_of, link_of, spoils, grow_of}
 use Rattle.grow.specs.inner.Extend.{window_alloc, extend_in, Extending}
 use Rattle.grow.proofs.Links.{link_empty, link_damaged, link_copied, link_pointers, link_rest, used_fits, next_room}
@@ -40,8 +41,8 @@ use Rattle.grow.proofs.Takes.{Outcome, allocated, took_block, took_none, took_ba
 
 -- the ways of an answer that a link gives for block k, with its image: made, with erased room in the block, or -84
 pub data Ends (B k : ℕ) : Growth → List ℕ → Type 0 where
-  made : {off : ℕ} {img : List ℕ} → off < B → Blank B k off (B - off) img → Ends B k (Grown k off) img
-  broken : {img : List ℕ} → Ends B k Damaged img
+  made : {off : ℕ} {img : List ℕ} → off < B → Blank B k off (B - off) img → Ends B k (grown_at k off) img
+  broken : {img : List ℕ} → Ends B k (Err refusal.Damaged) img
 
 pointers_ends : {W : Type 0} (m B N k off x cur : ℕ) (img : List ℕ) (w : W) → off < B → off ≡ 4 * (x + m) → Blank B k (4 * x) (B - 4 * x) img
     → Ends B k (pointers_of m B N k off x cur img w).answer (pointers_of m B N k off x cur img w).image
@@ -89,45 +90,50 @@ link_ends B N k head (suc p) img w z h b = go (ltb head N) refl (eqb (suc (offse
 -- what a growth from that count leaves and tells
 pub record Grows (B N l count : ℕ) (o : GrowOut Lookahead) : Type 0 where
   pub valid : ValidWindow o.rest N l
-  pub below : (k off : ℕ) → o.answer ≡ Grown k off → k < N
-  pub room : (k off : ℕ) → o.answer ≡ Grown k off → off < B
-  pub falls : (k off : ℕ) → o.answer ≡ Grown k off → o.rest.ckpoint < count
-  pub clean : (k off : ℕ) → o.answer ≡ Grown k off → Blank B k off (B - off) o.image
+  pub below : (k off : ℕ) → o.answer ≡ grown_at k off → k < N
+  pub room : (k off : ℕ) → o.answer ≡ grown_at k off → off < B
+  pub falls : (k off : ℕ) → o.answer ≡ grown_at k off → o.rest.ckpoint < count
+  pub clean : (k off : ℕ) → o.answer ≡ grown_at k off → Blank B k off (B - off) o.image
+  pub refused : (r : Refusal) → o.answer ≡ Err r → (r ≡ refusal.NoSpace) ⊎ (r ≡ refusal.Damaged)
 
-not_full : (k off : ℕ) → Full ≡ Grown k off → ⊥
-not_full k off e = let z : ◌≡◌ {A = ℕ} 0 1 = cc in omega arith
-
-not_damaged : (k off : ℕ) → Damaged ≡ Grown k off → ⊥
-not_damaged k off e = let z : ◌≡◌ {A = ℕ} 0 1 = cc in omega arith
-
-nothing : {B N l count : ℕ} {o : GrowOut Lookahead} → ValidWindow o.rest N l → ((k off : ℕ) → o.answer ≡ Grown k off → ⊥) → Grows B N l count o
-nothing g f =
+nothing : {B N l count : ℕ} {o : GrowOut Lookahead} → ValidWindow o.rest N l → (r : Refusal) → (r ≡ refusal.NoSpace) ⊎ (r ≡ refusal.Damaged)
+    → o.answer ≡ Err r → Grows B N l count o
+nothing {o = o} g r x e =
+    let never : (k off : ℕ) → o.answer ≡ grown_at k off → ⊥ = λ k off d. let z : ◌≡◌ {A = ℕ} 0 1 = cc in omega arith in
     record {
       valid = g;
-      below = λ k off e. absurd (f k off e);
-      room = λ k off e. absurd (f k off e);
-      falls = λ k off e. absurd (f k off e);
-      clean = λ k off e. absurd (f k off e);
+      below = λ k off d. absurd (never k off d);
+      room = λ k off d. absurd (never k off d);
+      falls = λ k off d. absurd (never k off d);
+      clean = λ k off d. absurd (never k off d);
+      refused = λ q d. let i : r ≡ q = cc in rw (← i) x;
     }
 
 fewer : {B N l c d : ℕ} {o : GrowOut Lookahead} → d ≤ c → Grows B N l d o → Grows B N l c o
 fewer h g =
-    record { valid = g.valid; below = g.below; room = g.room; falls = λ k off e. omega (arith, g.falls k off e); clean = g.clean }
+    record { valid = g.valid; below = g.below; room = g.room; falls = λ k off e. omega (arith, g.falls k off e); clean = g.clean; refused = g.refused }
+
+-- a growth's answer tells its block and its offset
+same_place : {k j off o : ℕ} → grown_at k off ≡ grown_at j o → (k ≡ j) × (off ≡ o)
+same_place {k} {j} {off} {o} e =
+    let r : ◌≡◌ {A = Grown} (record { block = k; offset = off }) (record { block = j; offset = o }) = cc in
+    (ap (λ (g : Grown). g.block) r, ap (λ (g : Grown). g.offset) r)
 
 -- a link that ended so, after an allocation
 linked : {B N l count k : ℕ} {a : Growth} (img : List ℕ) (v : Lookahead) → ValidWindow v N l → k < N → v.ckpoint < count → Ends B k a img
     → Grows B N l count (grow_out a img v)
-linked img v g h f broken = nothing g not_damaged
+linked img v g h f broken = nothing g refusal.Damaged (inr refl) refl
 linked {B} {k = k} img v g h f (made {off} r b) =
     record {
       valid = g;
-      below = λ j o e. let i : k ≡ j = cc in omega arith;
-      room = λ j o e. let i : off ≡ o = cc in omega arith;
+      below = λ j o e. let i : k ≡ j = (same_place e).0 in omega arith;
+      room = λ j o e. let i : off ≡ o = (same_place e).1 in omega arith;
       falls = λ j o e. f;
       clean = λ j o e.
-          let i : k ≡ j = cc in
-          let q : off ≡ o = cc in
+          let i : k ≡ j = (same_place e).0 in
+          let q : off ≡ o = (same_place e).1 in
           rw (← i, ← q) b;
+      refused = λ q d. let z : ◌≡◌ {A = ℕ} 0 1 = cc in absurd (omega arith);
     }
 
 module _ (B N l : ℕ) (health : List ℕ) (t : Table) (head s : ℕ) (z : BlockSized B) (fits : s ≤ size_max) where
@@ -152,14 +158,19 @@ module _ (B N l : ℕ) (health : List ℕ) (t : Table) (head s : ℕ) (z : Block
         → Grows B N l w.ckpoint (grow_of (window_alloc B N l t) (suc m) w health B N head s img)
     answered a p o (Ok k) e =
         tried k a.window (took_block B N l t w img p e) o.valid (o.below k e) (o.falls k e) (refuses_erase health k) refl (spoils health N k head s) refl
-    answered a p o (Err refusal.NoSpace) e =
-        rw (grow_none (window_alloc B N l t) m w a.window health B N head s img (took_none B N l t w img p e)) (nothing o.valid not_full)
     answered a p o (Err r) e =
-        rw (grow_bad (window_alloc B N l t) m w a.window health B N head s img (took_bad B N l t w img p e (λ i. let z : ◌≡◌ {A = ℕ} 0 1 = cc in omega arith))) (nothing o.valid not_damaged)
+        elim (o.refused r e) [
+          | inl n ↦
+              rw (grow_none (window_alloc B N l t) m w a.window health B N head s img (took_none B N l t w img p (e ∙ ap Err n)))
+              (nothing o.valid refusal.NoSpace (inl refl) refl)
+          | inr d ↦
+              rw (grow_bad (window_alloc B N l t) m w a.window health B N head s img (took_bad B N l t w img p (e ∙ ap Err d)))
+              (nothing o.valid refusal.Damaged (inr refl) refl)
+        ]
 
   tries : (m : ℕ) → Tries m
   unfolding grow_of
-  tries zero = λ w img g. nothing g not_full
+  tries zero = λ w img g. nothing g refusal.NoSpace (inl refl) refl
   tries (suc m) = λ w img g.
       answered m (tries m) w img (alloc_of (scope N l) (seen_in (card_with B N img) t) w) refl (allocated N l (seen_in (card_with B N img) t) w g) (alloc_of (scope N l) (seen_in (card_with B N img) t) w).answer refl
 
