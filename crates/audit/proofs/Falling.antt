@@ -1,21 +1,22 @@
 -- The pointer-0 walk by its cases, a map of bits that agrees with the numbers met, and what a clean walk tells. Assumes nothing.
-use mathlib.Core.Path.{◌≡◌, refl, sym, ap, ◌∙◌, subst}
-use mathlib.Core.Bool.{Bool, true, false, ◌||◌}
+use mathlib.Core.Path.{◌≡◌, refl, ap, ◌∙◌, subst}
+use mathlib.Core.Bool.{Bool, true, false}
 use mathlib.Core.List.{List, [], ◌∷◌}
 use Prim.Native.Nat.{ℕ, zero, suc, ◌-◌, ◌/◌, ◌≤◌, ◌<◌}
 use native.Mathlib.Nat.{zero-div}
 use native.Mathlib.Omega.{arith}
-use borrow.Author.Tests.{lt-ltb, le-ltb, ltb-true, eq-eqb, ne_eqb, eqb-true, eqb-false}
-use lib.Dec.{eqb, ltb}
+use borrow.Author.Tests.{lt-ltb, le-ltb, ltb-true}
+use lib.Dec.{ltb}
 use lib.ListN.{length, length-set, replicate, get_or-replicate, length-replicate}
 use Rattle.std.specs.Prelude.{Option, None, Some}
+use Rattle.std.proofs.lemmas.Bool.Decides.{nat_tests}
 use Rattle.span.specs.Members.{has, bit_in, with_bit_in}
 use Rattle.ctz.specs.Lists.{down}
 use Rattle.ctz.specs.inner.Forms.{pointers_with}
 use Rattle.audit.specs.declared.Fault.{Fault}
 use Rattle.audit.specs.declared.Fault.TheVariants.{NotBelow, MetBefore}
 use Rattle.audit.specs.Check.{falls}
-use Rattle.audit.proofs.Bitmap.{bit_put}
+use Rattle.span.proofs.Bitmap.{bit_put}
 
 module _ (ptr : ℕ → ℕ → ℕ) (N : ℕ) where
   pub falls_far : (i k : ℕ) (met : List ℕ) → N ≤ k → falls (pointers_with N ptr) i k met ≡ Some (NotBelow i 0)
@@ -41,13 +42,6 @@ module _ (ptr : ℕ → ℕ → ℕ) (N : ℕ) where
       let p : i ≡ suc i - 1 = omega arith in
       rw (falls, lt-ltb k N h, e) (ap (λ (n : ℕ). falls (pointers_with N ptr) n (ptr k 0) (k ∷ met)) p)
 
-eqb_flip : (a b : ℕ) → eqb a b ≡ eqb b a
-eqb_flip a b = go (eqb a b) refl
-  where
-    go : (t : Bool) → eqb a b ≡ t → t ≡ eqb b a
-    go true e = sym (eq-eqb b a (sym (eqb-true a b e)))
-    go false e = sym (ne_eqb b a (λ q. eqb-false a b e (sym q)))
-
 -- the map's bits are the numbers met
 pub record Agrees (map met : List ℕ) : Type 0 where
   pub long : length map ≡ 8192
@@ -64,7 +58,7 @@ pub agree_put : (map met : List ℕ) (k : ℕ) → k < 65536 → Agrees map met 
 unfolding has
 agree_put map met k h a = record {
   long = simp length-set a.long;
-  bit = λ j g. let l = a.long in bit_put map k j (omega arith) ∙ ap (λ (b : Bool). b || bit_in map j) (eqb_flip j k) ∙ ap (λ (b : Bool). eqb k j || b) (a.bit j g);
+  bit = λ j g. let l = a.long in bit_put map k j (omega arith) ∙ rw (a.bit j g) (grind (arith, nat_tests));
 }
 
 -- ---- a clean walk

@@ -1,5 +1,4 @@
 -- The laws of the list check.
-pub mod Bitmap
 pub mod Falling
 pub mod Further
 pub mod Checks

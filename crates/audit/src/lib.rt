@@ -1,8 +1,6 @@
 // The list check: sound, or its first fault.
 #![tactic(auto)]
 
-mod bits;
-
 ghost use Rattle.std.specs.Prelude.{◌≡◌, [], length};
 ghost use Rattle.hops.specs.Walk.{ctz};
 ghost use Rattle.card.specs.Card.{card_of, pointer};
@@ -13,6 +11,7 @@ ghost use Rattle.audit.specs.Check.{falls, names, further, check_of};
 ghost use Rattle.audit.specs.inner.Bounds.{holder, CleanWalk, Holding};
 
 use layout::{Geometry, Refusal};
+use span::bits;
 
 // What is wrong with a list, with its index and pointer number.
 #[derive(Clone, Copy, Debug, PartialEq, Eq)]
@@ -38,10 +37,10 @@ fn walk_down(b: u32, n: u32, image: &[u8], top: u32, head: u32) -> Option<Fault>
         if n <= k {
             return Some(Fault::NotBelow { index, pointer: 0 });
         }
-        if bits::test(&met, k) {
+        if bits::is_set(&met, k) {
             return Some(Fault::MetBefore { index, pointer: 0 });
         }
-        bits::put(&mut met, k);
+        bits::set(&mut met, k);
         if 0 < index {
             k = card::pointer(image, b, k, 0);
         }

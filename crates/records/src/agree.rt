@@ -1,9 +1,9 @@
 // Whether an answer is the one that a record has, and whether two windows agree.
 ghost use Rattle.std.specs.Prelude.{◌≡◌};
-ghost use Rattle.span.specs.Members.{bit_at};
 ghost use Rattle.records.specs.Agreement.{bare_of, told_of, maps_agree, windows_agree};
 
 use crate::word;
+use span::bits;
 use window::Lookahead;
 
 // Whether these are the four words of the answer.
@@ -17,24 +17,13 @@ pub fn told(list: &[u8], at: usize, code: u32, first: u32, second: u32, third: u
         && third == word(list, at, 3)
 }
 
-// Bit `o` of a map; 0 past its end.
-fn bit(map: [u8; 64], o: u32) -> u8
-    ensures { result ≡ bit_at map o }
-{
-    let i = (o / 8) as usize;
-    if i < map.len() {
-        map[i] >> (o % 8) & 1
-    } else {
-        0
-    }
-}
-
 // Whether two maps agree from bit `next` on.
+#[tactic(auto, using(crate::proofs::Agreeing::maps_end, crate::proofs::Agreeing::maps_turn))]
 fn same_map(ours: [u8; 64], theirs: [u8; 64], next: u32) -> bool
     ensures { result ≡ maps_agree ours theirs next }
 {
     for o in next..512 {
-        if bit(ours, o) != bit(theirs, o) {
+        if bits::is_set(&ours, o) != bits::is_set(&theirs, o) {
             return false;
         }
     }

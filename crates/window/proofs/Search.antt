@@ -6,9 +6,7 @@ use Prim.Native.Nat.{ℕ, zero, suc, ◌+◌, ◌-◌, ◌≤◌, ◌<◌}
 use native.Mathlib.Numerals.{add-one}
 use native.Mathlib.Omega.{arith}
 use Rattle.span.specs.Members.{bit_in}
-use Rattle.window.specs.declared.Lookahead.{Lookahead}
-use Rattle.window.specs.Allocate.{skip, free_from}
-use Rattle.window.specs.inner.Facts.{Searchable}
+use Rattle.window.specs.Allocate.{skip}
 use Rattle.window.proofs.Cases.{eqb_cases}
 
 module _ (m : List ℕ) where
@@ -52,14 +50,9 @@ skip_stops m (suc k) o = go (bit_in m o) refl (skip_stops m k (suc o))
 pub free_stops : (m : List ℕ) (o size : ℕ) → o ≤ size → Stops m o size (skip (size - o) m o)
 free_stops m o size h = let e : o + (size - o) ≡ size = omega arith in rw e at (skip_stops m (size - o) o)
 
-module _ (w : Lookahead) (n at : ℕ) (g : Searchable w n) (p : at ≡ free_from w w.next) where
-  -- how far a search came that used the window up ..
-  pub used_up_lem : at - w.next ≤ w.ckpoint
-  used_up_lem = omega (arith, g.left_le, free_stops w.map w.next w.size g.next_le)
+module _ (m : List ℕ) (o size : ℕ) (h : o ≤ size) where
+  pub stops_behind : o ≤ skip (size - o) m o
+  stops_behind = (free_stops m o size h).ge
 
-  -- .. and one that found a block, with its eager move
-  pub moved_on : (to : ℕ) → at < w.size → to ≡ free_from w (at + 1) → (w.next ≤ to) × (to - w.next ≤ w.ckpoint)
-  moved_on to h q =
-      let first = free_stops w.map w.next w.size g.next_le in
-      let second = free_stops w.map (at + 1) w.size (omega arith) in
-      (omega (arith, first.ge, second.ge), omega (arith, g.left_le, second.le))
+  pub stops_within : skip (size - o) m o ≤ size
+  stops_within = (free_stops m o size h).le

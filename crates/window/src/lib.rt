@@ -49,34 +49,27 @@ pub fn alloc_drop(w: Lookahead, n: u32) -> Lookahead
 }
 
 // The first unmarked block, and the window moved on to the next unmarked offset or the end; each block passed lowers the count.
+#[tactic(auto, using(crate::proofs::Search::stops_behind, crate::proofs::Search::stops_within, std::proofs::lemmas::Bool::Decides::nat_tests), unfolding(crate::specs::Allocate::take_of))]
 pub fn take(w: Lookahead, n: u32) -> Windowed<Option<u32>>
     requires { Searchable w n }
     ensures { result ≡ take_of n w }
 {
     let at = map::next_free(&w.map, w.next, w.size);
-    if at < w.size {
-        let to = map::next_free(&w.map, at + 1, w.size);
-        Windowed {
-            answer: Some((w.start + at) % n),
-            window: Lookahead {
-                next: to,
-                ckpoint: w.ckpoint - (to - w.next),
-                ..w
-            },
-        }
+    let (answer, next) = if at < w.size {
+        let block = (w.start + at) % n;
+        (Some(block), map::next_free(&w.map, at + 1, w.size))
     } else {
-        Windowed {
-            answer: None,
-            window: Lookahead {
-                next: at,
-                ckpoint: w.ckpoint - (at - w.next),
-                ..w
-            },
-        }
+        (None, at)
+    };
+    let ckpoint = w.ckpoint - (next - w.next);
+    Windowed {
+        answer,
+        window: Lookahead { next, ckpoint, ..w },
     }
 }
 
 // The start of a scan: the window moved on by what it passed, as long as L and the count allow, with nothing marked yet.
+#[tactic(auto, unfolding(crate::specs::Scan::cleared))]
 pub fn cleared(w: Lookahead, n: u32, l: u32) -> Lookahead
     requires { (Searchable w n) × (l ≤ 64) }
     ensures { result ≡ cleared (scope n l) w }
@@ -91,6 +84,7 @@ pub fn cleared(w: Lookahead, n: u32, l: u32) -> Lookahead
 }
 
 // Lookahead L: 8 to 64 bytes, a multiple of 8.
+#[tactic(auto, using(std::proofs::lemmas::Bool::Decides::nat_tests), unfolding(crate::specs::Value::lookahead_fits))]
 pub fn valid_lookahead(l: u32) -> bool
     ensures { result ≡ lookahead_fits l }
 {
@@ -98,6 +92,7 @@ pub fn valid_lookahead(l: u32) -> bool
 }
 
 // Whether a window is one for this block count and lookahead.
+#[tactic(auto, using(std::proofs::lemmas::Bool::Decides::nat_tests), unfolding(crate::specs::Value::valid_of))]
 pub fn valid_window(w: Lookahead, n: u32, l: u32) -> bool
     requires { l ≤ 64 }
     ensures { result ≡ valid_of (scope n l) w }

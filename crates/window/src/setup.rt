@@ -28,6 +28,7 @@ fn empty(start: u32, ckpoint: u32) -> Lookahead
 }
 
 // A fresh window from block `start` on. Refused: the window of zeros.
+#[tactic(auto, using(std::proofs::lemmas::Bool::Decides::nat_tests), unfolding(crate::specs::Value::fresh_reply))]
 pub fn fresh(g: Geometry, l: u32, start: u32) -> Windowed<Result<(), Refusal>>
     ensures { result ≡ fresh_reply g (record { L = l; start = start }) }
 {
@@ -45,6 +46,7 @@ pub fn fresh(g: Geometry, l: u32, start: u32) -> Windowed<Result<(), Refusal>>
 }
 
 // The window checkpointed. Refused: the window as it came.
+#[tactic(auto, using(crate::proofs::Valid::sizes, std::proofs::lemmas::Bool::Decides::nat_tests), unfolding(crate::specs::Value::checkpoint_reply))]
 pub fn checkpoint(g: Geometry, l: u32, w: Lookahead) -> Windowed<Result<(), Refusal>>
     ensures { result ≡ checkpoint_reply g l w }
 {
@@ -62,6 +64,7 @@ pub fn checkpoint(g: Geometry, l: u32, w: Lookahead) -> Windowed<Result<(), Refu
 }
 
 // The window dropped. Refused: the window as it came.
+#[tactic(auto, using(crate::proofs::Valid::sizes, std::proofs::lemmas::Bool::Decides::nat_tests), unfolding(crate::specs::Value::dropped_reply))]
 pub fn dropped(g: Geometry, l: u32, w: Lookahead) -> Windowed<Result<(), Refusal>>
     ensures { result ≡ dropped_reply g l w }
 {

@@ -2,7 +2,6 @@ pub mod Circle
 pub mod Views
 pub mod Asking
 pub mod Has
-pub mod Marks
 pub mod Scan
 pub mod Alloc
 pub mod Answers

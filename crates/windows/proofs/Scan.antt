@@ -1,22 +1,24 @@
 -- What a scan leaves: an offset of the window is marked exactly if a listed block lies there. Assumes nothing.
 use mathlib.Core.Path.{◌≡◌, refl, ap, ◌∙◌, sym}
+use mathlib.Core.Logic.{◌⊎◌, inl, inr}
 use mathlib.Core.Bool.{Bool, true, false, ◌||◌, or-false}
 use mathlib.Core.List.{List, [], ◌∷◌}
 use Prim.Native.Nat.{ℕ, ◌+◌, ◌/◌, ◌%◌, ◌≤◌, ◌<◌}
 use native.Mathlib.Nat.{zero-div}
 use native.Mathlib.Omega.{arith}
 use lib.ListN.{length, length-set, replicate, get_or-replicate}
-use lib.Dec.{ltb, eqb}
+use lib.Dec.{eqb}
+use Rattle.std.proofs.lemmas.Bool.{cases_eq, eq-eqb, ne_eqb}
 use Rattle.span.specs.Members.{has, bit_in, with_bit_in}
+use Rattle.span.proofs.Bitmap.{bit_put}
 use Rattle.window.specs.declared.Lookahead.{Lookahead}
 use Rattle.window.specs.Scan.{mark_all, mark_map, cleared, mark_on}
 use Rattle.window.specs.inner.Facts.{ValidWindow, GoodScope, window_on, scope}
-use Rattle.window.proofs.Cases.{eqb_cases, ltb_cases}
+use Rattle.window.proofs.Cases.{ltb_cases}
 use Rattle.window.proofs.Kept.{cleared_valid}
 use Rattle.window.proofs.Scans.{marks_seen}
 use Rattle.windows.proofs.Circle.{block_offset, offset_block, offset_from}
 use Rattle.windows.proofs.Has.{below_head, below_tail}
-use Rattle.windows.proofs.Marks.{mark_other, mark_same}
 use Rattle.windows.proofs.Views.{Below}
 
 abbrev mark_if : Bool → List ℕ → ℕ → List ℕ
@@ -34,19 +36,27 @@ or_swap false true m = refl
 or_swap false false m = refl
 
 module _ (s z n o : ℕ) (small : z ≤ 512) (fits : z ≤ n) (s-lt : s < n) (o_lt : o < z) where
-  -- one block more: its offset is marked, and every other is as it was
-  map_step : (m : List ℕ) (b : ℕ) → length m ≡ 64 → b < n → bit_in (mark_map n (window_on s z m) b) o ≡ ((eqb b ((s + o) % n)) || (bit_in m o))
-  unfolding mark_map
-  map_step m b room b_lt = eqb_cases b ((s + o) % n) (λ t. bit_in (mark_map n (window_on s z m) b) o ≡ (t || (bit_in m o)))
-      (λ e. at_offset (ap (λ (x : ℕ). offset_from s x n) e ∙ offset_block n s o s-lt (omega arith)))
-      (λ d. ltb_cases (offset_from s b n) z (λ t. bit_in (mark_if t m (offset_from s b n)) o ≡ bit_in m o)
-      (λ a. mark_other m (offset_from s b n) o (omega arith) (λ q. d (sym (block_offset n s b s-lt b_lt) ∙ ap (λ (x : ℕ). (s + x) % n) (sym q))))
-      (λ a. refl))
+  -- the offset asked for is that of a block exactly if the block lies there
+  same_offset : (b : ℕ) → b < n → eqb o (offset_from s b n) ≡ eqb b ((s + o) % n)
+  same_offset b b_lt = by (cases_eq b ((s + o) % n))
     where
-      at_offset : offset_from s b n ≡ o → bit_in (mark_if (ltb (offset_from s b n) z) m (offset_from s b n)) o ≡ true
-      at_offset e = ltb_cases (offset_from s b n) z (λ t. bit_in (mark_if t m (offset_from s b n)) o ≡ true)
-          (λ a. rw (sym e) (mark_same m (offset_from s b n) (omega arith)))
-          (λ a. absurd (omega arith))
+      by : (b ≡ (s + o) % n) ⊎ (b ≡ (s + o) % n → ⊥) → eqb o (offset_from s b n) ≡ eqb b ((s + o) % n)
+      by (inl e) =
+          let at : offset_from s b n ≡ o = ap (λ (x : ℕ). offset_from s x n) e ∙ offset_block n s o s-lt (omega arith) in
+          eq-eqb _ _ (sym at) ∙ sym (eq-eqb _ _ e)
+      by (inr d) =
+          let apart : o ≡ offset_from s b n → ⊥ = λ q. d (sym (block_offset n s b s-lt b_lt) ∙ ap (λ (x : ℕ). (s + x) % n) (sym q)) in
+          ne_eqb _ _ apart ∙ sym (ne_eqb _ _ d)
+
+  -- one block more: its offset is marked, and every other is as it was
+  map_step : (m : List ℕ) (b : ℕ) → length m ≡ 64 → b < n → bit_in (mark_map n (window_on s z m) b) o ≡ (eqb b ((s + o) % n) || bit_in m o)
+  unfolding mark_map
+  map_step m b room b_lt =
+      let at = offset_from s b n in
+      let same = same_offset b b_lt in
+      ltb_cases at z (λ t. bit_in (mark_if t m at) o ≡ (eqb b ((s + o) % n) || bit_in m o))
+      (λ a. bit_put m at o (omega arith) ∙ ap (λ (t : Bool). t || bit_in m o) same)
+      (λ a. rw (sym same, ne_eqb o at (omega arith)))
 
   all_step : (bs m : List ℕ) → length m ≡ 64 → Below n bs → bit_in (mark_all n (window_on s z m) bs) o ≡ ((has bs ((s + o) % n)) || (bit_in m o))
   unfolding mark_all has

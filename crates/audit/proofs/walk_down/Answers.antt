@@ -18,23 +18,23 @@ loop-index-init c = ([], agree_none, refl)
 pub returns-then-n-k : goal.returns-then-n-k
 returns-then-n-k c = sym (c.loop-index.invariant.2 ∙ falls_far _ _ _ _ _ c.if-n-k.true)
 
-pub returns-then-test : goal.returns-then-test
-returns-then-test c =
+pub returns-then-is_set : goal.returns-then-is_set
+returns-then-is_set c =
     let l = c.loop-index in
-    let told : c.test.result ≡ has l.invariant.0 l.k = c.test.ensures ∙ l.invariant.1.bit l.k (omega arith) in
-    sym (l.invariant.2 ∙ falls_again _ _ _ _ _ c.if-n-k.false (sym told ∙ c.if-test.true))
+    let told : c.is_set.result ≡ has l.invariant.0 l.k = c.is_set.ensures ∙ l.invariant.1.bit l.k (omega arith) in
+    sym (l.invariant.2 ∙ falls_again _ _ _ _ _ c.if-n-k.false (sym told ∙ c.if-is_set.true))
 
 pub loop-index-preserved : goal.loop-index-preserved
 loop-index-preserved c =
     let l = c.loop-index in
     let a = c.args in
     let k : l.k < 65536 = omega arith in
-    let told : c.test.result ≡ has l.invariant.0 l.k = c.test.ensures ∙ l.invariant.1.bit l.k k in (
+    let told : c.is_set.result ≡ has l.invariant.0 l.k = c.is_set.ensures ∙ l.invariant.1.bit l.k k in (
       l.k ∷ l.invariant.0,
-      rw c.put.ensures (agree_put _ _ _ k l.invariant.1),
+      rw c.set.ensures (agree_put _ _ _ k l.invariant.1),
       elim c.if-index-gt0.branch [
         | then-index-gt0 w ↦
-            l.invariant.2 ∙ falls_on (pointer a.b a.image.now) _ _ _ _ c.if-n-k.false (sym told ∙ c.if-test.false) (λ z. omega arith)
+            l.invariant.2 ∙ falls_on (pointer a.b a.image.now) _ _ _ _ c.if-n-k.false (sym told ∙ c.if-is_set.false) (λ z. omega arith)
             ∙ ap (λ (q : ℕ). falls (pointers_with a.n (pointer a.b a.image.now)) (l.index - 1) q (l.k ∷ l.invariant.0)) (sym (w.k-is ∙ w.pointer-k.ensures))
         | else-index-gt0 w ↦ absurd (omega arith)
       ],
@@ -43,5 +43,5 @@ loop-index-preserved c =
 pub returns-after-index-gt0 : goal.returns-after-index-gt0
 returns-after-index-gt0 c =
     let l = c.loop-index in
-    let told : c.test.result ≡ has l.invariant.0 l.k = c.test.ensures ∙ l.invariant.1.bit l.k (omega arith) in
-    sym (l.invariant.2 ∙ falls_end _ _ _ _ _ c.if-n-k.false (sym told ∙ c.if-test.false) (omega arith))
+    let told : c.is_set.result ≡ has l.invariant.0 l.k = c.is_set.ensures ∙ l.invariant.1.bit l.k (omega arith) in
+    sym (l.invariant.2 ∙ falls_end _ _ _ _ _ c.if-n-k.false (sym told ∙ c.if-is_set.false) (omega arith))
