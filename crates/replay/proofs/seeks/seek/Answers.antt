@@ -8,6 +8,6 @@ returns c =
     seek_is _ _ _ _ _ _ _ _ _ _ _ _ _ c.word.ensures c.word-2.ensures
     c.word-3.ensures c.word-4.ensures c.signed.type_inv
     c.signed.ensures c.signed-2.type_inv c.signed-2.ensures
-    c.one_file.ensures c.seek.ensures c.sought_told-a.ensures
-    (bare_is c.sought_told-a.result.code _ c.struct_told-1.given.0.1 c.bare.ensures)
+    c.one_file.ensures c.seek.ensures c.from-a.ensures
+    (bare_is c.from-a.result.code _ c.struct_told-1.given.0.1 c.bare.ensures)
     c.told.ensures
