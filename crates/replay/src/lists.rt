@@ -7,13 +7,14 @@ ghost use Rattle.replay.specs.Lists.{index_equal, find_equal, visited_of, visit_
 use ctz::visit::Visit;
 use records::agree::{bare, told};
 use records::{geometry, image, place, word};
+use told_lists::{TidFind, TidIndex};
 
 // Index and offset of a position.
 #[tactic(auto, using(records::proofs::Bare::bare_is), unfolding(crate::specs::Lists::index_equal))]
 pub fn index(list: &[u8], at: usize) -> bool
     ensures { result ≡ index_equal list.now at }
 {
-    let a = told_lists::place_told(layout::ctz_index(word(list, at, 4), word(list, at, 5)));
+    let a = TidIndex::from(layout::ctz_index(word(list, at, 4), word(list, at, 5)));
     told(list, at, bare(a.code), a.index, a.offset, 0)
 }
 
@@ -23,7 +24,7 @@ pub fn find(list: &[u8], at: usize) -> bool
     ensures { result ≡ find_equal list.now at }
 {
     let card = place(list, at, 4);
-    let a = told_lists::found_told(ctz::ctz_find(
+    let a = TidFind::from(ctz::ctz_find(
         geometry(list, card),
         image(list, card),
         word(list, at, 5),

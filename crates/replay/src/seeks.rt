@@ -6,6 +6,7 @@ use files::{Entry, Table};
 use layout::Geometry;
 use records::agree::{bare, told};
 use records::{signed, word};
+use told_tables::TidSeek;
 
 // A head that a file of this size can have.
 #[tactic(auto, unfolding(crate::specs::Files::some_head))]
@@ -33,7 +34,7 @@ fn one_file(size: u32) -> Table
 pub fn seek(list: &[u8], at: usize) -> bool
     ensures { result ≡ seek_equal list.now at }
 {
-    let a = told_tables::sought_told(files::position::seek(
+    let a = TidSeek::from(files::position::seek(
         one_file(word(list, at, 4)),
         7,
         word(list, at, 5),

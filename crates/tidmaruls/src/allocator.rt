@@ -15,7 +15,7 @@ use window::Lookahead;
 pub extern "C" fn tid_fresh(g: Geometry, lookahead: u32, start: u32) -> TidWindow
     ensures { result ≡ replied_told (fresh_reply g (record { L = lookahead; start = start })) }
 {
-    told_windows::replied_told(window::setup::fresh(g, lookahead, start))
+    TidWindow::from(window::setup::fresh(g, lookahead, start))
 }
 
 // The window with its checkpoint count set to the block count.
@@ -23,7 +23,7 @@ pub extern "C" fn tid_fresh(g: Geometry, lookahead: u32, start: u32) -> TidWindo
 pub extern "C" fn tid_ckpoint(g: Geometry, lookahead: u32, w: Lookahead) -> TidWindow
     ensures { result ≡ replied_told (checkpoint_reply g lookahead w) }
 {
-    told_windows::replied_told(window::setup::checkpoint(g, lookahead, w))
+    TidWindow::from(window::setup::checkpoint(g, lookahead, w))
 }
 
 // The window emptied, its start kept.
@@ -31,7 +31,7 @@ pub extern "C" fn tid_ckpoint(g: Geometry, lookahead: u32, w: Lookahead) -> TidW
 pub extern "C" fn tid_drop(g: Geometry, lookahead: u32, w: Lookahead) -> TidWindow
     ensures { result ≡ replied_told (dropped_reply g lookahead w) }
 {
-    told_windows::replied_told(window::setup::dropped(g, lookahead, w))
+    TidWindow::from(window::setup::dropped(g, lookahead, w))
 }
 
 // One allocation.
@@ -45,5 +45,5 @@ pub extern "C" fn tid_alloc(
 ) -> TidAlloc
     ensures { result ≡ allocated_told (allocate_of (card_of g image.now) lookahead t w) }
 {
-    told_windows::allocated_told(alloc::alloc(g, lookahead, image, t, w))
+    TidAlloc::from(alloc::alloc(g, lookahead, image, t, w))
 }

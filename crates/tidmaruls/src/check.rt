@@ -12,5 +12,5 @@ use told_lists::TidCheck;
 pub extern "C" fn tid_check(g: Geometry, image: &[u8], head: u32, size: u32) -> TidCheck
     ensures { result ≡ checked_told (check_of (card_of g image.now) (record { head = head; size = size })) }
 {
-    told_lists::checked_told(audit::ctz_check(g, image, head, size))
+    TidCheck::from(audit::ctz_check(g, image, head, size))
 }

@@ -21,7 +21,7 @@ pub extern "C" fn tid_read(
     ensures { (result ≡ read_told (read_of (card_of g image.now) t (record { number = number; position = pos }) buffer.old).answer)
         × (buffer.new ≡ (read_of (card_of g image.now) t (record { number = number; position = pos }) buffer.old).buffer) }
 {
-    told_files::read_told(reading::read(g, image, t, number, pos, buffer))
+    TidRead::from(reading::read(g, image, t, number, pos, buffer))
 }
 
 // The bytes from a position to the end of its block or file.
@@ -35,5 +35,5 @@ pub extern "C" fn tid_stretch(
 ) -> TidStretch
     ensures { result ≡ placed_told (stretch_of (card_of g image.now) t (record { number = number; position = pos })) }
 {
-    told_files::placed_told(reading::stretch_place(g, image, t, number, pos))
+    TidStretch::from(reading::stretch_place(g, image, t, number, pos))
 }

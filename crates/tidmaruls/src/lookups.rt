@@ -13,7 +13,7 @@ use told_lists::{TidFind, TidIndex};
 pub extern "C" fn tid_index(block_size: u32, pos: u32) -> TidIndex
     ensures { result ≡ place_told (place_of block_size pos) }
 {
-    told_lists::place_told(layout::ctz_index(block_size, pos))
+    TidIndex::from(layout::ctz_index(block_size, pos))
 }
 
 // Block, offset and hops of a position of the list (head, size).
@@ -21,5 +21,5 @@ pub extern "C" fn tid_index(block_size: u32, pos: u32) -> TidIndex
 pub extern "C" fn tid_find(g: Geometry, image: &[u8], head: u32, size: u32, pos: u32) -> TidFind
     ensures { result ≡ found_told (lookup_of (card_of g image.now) (record { head = head; size = size }) pos) }
 {
-    told_lists::found_told(ctz::ctz_find(g, image, head, size, pos))
+    TidFind::from(ctz::ctz_find(g, image, head, size, pos))
 }

@@ -15,7 +15,7 @@ use told_tables::{TidSave, TidSeek, TidSize, TidTable};
 pub extern "C" fn tid_create(t: Table, number: u32) -> TidTable
     ensures { result ≡ changed_told (create_of t number) }
 {
-    told_tables::changed_told(files::change::create(t, number))
+    TidTable::from(files::change::create(t, number))
 }
 
 // The table without a file.
@@ -23,7 +23,7 @@ pub extern "C" fn tid_create(t: Table, number: u32) -> TidTable
 pub extern "C" fn tid_remove(t: Table, number: u32) -> TidTable
     ensures { result ≡ changed_told (remove_of t number) }
 {
-    told_tables::changed_told(files::change::remove(t, number))
+    TidTable::from(files::change::remove(t, number))
 }
 
 // The size of a file.
@@ -31,7 +31,7 @@ pub extern "C" fn tid_remove(t: Table, number: u32) -> TidTable
 pub extern "C" fn tid_size(t: Table, number: u32) -> TidSize
     ensures { result ≡ sized_told (size_of t number) }
 {
-    told_tables::sized_told(files::size(t, number))
+    TidSize::from(files::size(t, number))
 }
 
 // A new position in a file, from a held one.
@@ -45,7 +45,7 @@ pub extern "C" fn tid_seek(
 ) -> TidSeek
     ensures { result ≡ sought_told (seek_of t (record { number = number; position = position; offset = offset; whence = whence })) }
 {
-    told_tables::sought_told(files::position::seek(t, number, position, offset, whence))
+    TidSeek::from(files::position::seek(t, number, position, offset, whence))
 }
 
 // The table in its saved form, at the front of the buffer.
@@ -53,7 +53,7 @@ pub extern "C" fn tid_seek(
 pub extern "C" fn tid_save(t: Table, buffer: &mut [u8]) -> TidSave
     ensures { (result ≡ saved_told (saved_of t buffer.old)) × (buffer.new ≡ buffer_of t buffer.old) }
 {
-    told_tables::saved_told(saved::save(t, buffer))
+    TidSave::from(saved::save(t, buffer))
 }
 
 // The table that these bytes are the saved form of; that of no files where they are none.
@@ -61,5 +61,5 @@ pub extern "C" fn tid_save(t: Table, buffer: &mut [u8]) -> TidSave
 pub extern "C" fn tid_load(bytes: &[u8]) -> TidTable
     ensures { result ≡ loaded_told (load_of bytes.now) }
 {
-    told_tables::loaded_told(saved::load(bytes))
+    TidTable::from(saved::load(bytes))
 }

@@ -12,7 +12,7 @@ use told_lists::{TidPlace, TidStep, TidVisit};
 pub extern "C" fn tid_visit(g: Geometry, head: u32, size: u32) -> TidVisit
     ensures { result ≡ begun_told (begin_of g (record { head = head; size = size })) }
 {
-    told_lists::begun_told(ctz::visit::ctz_visit(g, head, size))
+    TidVisit::from(ctz::visit::ctz_visit(g, head, size))
 }
 
 // One step of a visit.
@@ -20,5 +20,5 @@ pub extern "C" fn tid_visit(g: Geometry, head: u32, size: u32) -> TidVisit
 pub extern "C" fn tid_traverse(g: Geometry, image: &[u8], place: TidPlace) -> TidStep
     ensures { result ≡ step_told (traverse_of (card_of g image.now) (place_asked place)) }
 {
-    told_lists::step_told(ctz::visit::ctz_traverse(g, image, told_lists::place_asked(place)))
+    TidStep::from(ctz::visit::ctz_traverse(g, image, place.into()))
 }

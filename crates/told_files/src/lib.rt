@@ -18,15 +18,17 @@ pub struct TidRead {
     pub length: u32,
 }
 
-pub fn read_told(length: Result<u32, Refusal>) -> TidRead
-    ensures { result ≡ read_told length }
-{
-    match length {
-        Ok(length) => TidRead { code: 0, length },
-        Err(refusal) => TidRead {
-            code: refusal.code(),
-            length: 0,
-        },
+impl From<Result<u32, Refusal>> for TidRead {
+    ghost from_gives = { λ length told. told ≡ read_told length };
+
+    fn from(length: Result<u32, Refusal>) -> TidRead {
+        match length {
+            Ok(length) => TidRead { code: 0, length },
+            Err(refusal) => TidRead {
+                code: refusal.code(),
+                length: 0,
+            },
+        }
     }
 }
 
@@ -39,26 +41,28 @@ pub struct TidStretch {
     pub length: u32,
 }
 
-pub fn placed_told(part: Result<Part, Refusal>) -> TidStretch
-    ensures { result ≡ placed_told part }
-{
-    match part {
-        Ok(Part { place, length }) => TidStretch {
-            code: 0,
-            place,
-            length,
-        },
-        Err(refusal) => TidStretch {
-            code: refusal.code(),
-            place: 0,
-            length: 0,
-        },
+impl From<Result<Part, Refusal>> for TidStretch {
+    ghost from_gives = { λ part told. told ≡ placed_told part };
+
+    fn from(part: Result<Part, Refusal>) -> TidStretch {
+        match part {
+            Ok(Part { place, length }) => TidStretch {
+                code: 0,
+                place,
+                length,
+            },
+            Err(refusal) => TidStretch {
+                code: refusal.code(),
+                place: 0,
+                length: 0,
+            },
+        }
     }
 }
 
 // Window and table after a call that changes a file.
 #[repr(C)]
-#[derive(Clone, Copy)]
+#[derive(Clone, Copy, Debug, PartialEq, Eq)]
 pub struct TidStore {
     pub code: i32,
     pub window: Lookahead,

@@ -3,7 +3,7 @@ use Rattle.std.specs.Prelude.{true, false, Option, None, Some, Result, Ok, Err, 
 use Rattle.layout.specs.declared.Place.{Place}
 use Rattle.layout.specs.declared.Refusal.{Refusal}
 use Rattle.layout.specs.Refusals.{refusal_code}
-use Rattle.layout.specs.Numbers.{accepted, invalid, damaged_card}
+use Rattle.layout.specs.Numbers.{accepted}
 use Rattle.ctz.specs.declared.Found.{Found}
 use Rattle.ctz.specs.declared.visit.Visit.{Visit}
 use Rattle.ctz.specs.declared.visit.Step.{Step}

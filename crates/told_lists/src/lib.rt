@@ -10,32 +10,34 @@ use ctz::visit::{Step, Visit};
 use layout::{Place, Refusal};
 
 #[repr(C)]
-#[derive(Clone, Copy)]
+#[derive(Clone, Copy, Debug, PartialEq, Eq)]
 pub struct TidIndex {
     pub code: i32,
     pub index: u32,
     pub offset: u32,
 }
 
-pub fn place_told(p: Result<Place, Refusal>) -> TidIndex
-    ensures { result ≡ place_told p }
-{
-    match p {
-        Ok(Place { index, offset }) => TidIndex {
-            code: 0,
-            index,
-            offset,
-        },
-        Err(refusal) => TidIndex {
-            code: refusal.code(),
-            index: 0,
-            offset: 0,
-        },
+impl From<Result<Place, Refusal>> for TidIndex {
+    ghost from_gives = { λ place told. told ≡ place_told place };
+
+    fn from(place: Result<Place, Refusal>) -> TidIndex {
+        match place {
+            Ok(Place { index, offset }) => TidIndex {
+                code: 0,
+                index,
+                offset,
+            },
+            Err(refusal) => TidIndex {
+                code: refusal.code(),
+                index: 0,
+                offset: 0,
+            },
+        }
     }
 }
 
 #[repr(C)]
-#[derive(Clone, Copy)]
+#[derive(Clone, Copy, Debug, PartialEq, Eq)]
 pub struct TidFind {
     pub code: i32,
     pub block: u32,
@@ -43,22 +45,24 @@ pub struct TidFind {
     pub hops: u32,
 }
 
-pub fn found_told(f: Result<Found, Refusal>) -> TidFind
-    ensures { result ≡ found_told f }
-{
-    match f {
-        Ok(found) => TidFind {
-            code: 0,
-            block: found.block,
-            offset: found.offset,
-            hops: found.hops,
-        },
-        Err(refusal) => TidFind {
-            code: refusal.code(),
-            block: 0,
-            offset: 0,
-            hops: 0,
-        },
+impl From<Result<Found, Refusal>> for TidFind {
+    ghost from_gives = { λ found told. told ≡ found_told found };
+
+    fn from(found: Result<Found, Refusal>) -> TidFind {
+        match found {
+            Ok(found) => TidFind {
+                code: 0,
+                block: found.block,
+                offset: found.offset,
+                hops: found.hops,
+            },
+            Err(refusal) => TidFind {
+                code: refusal.code(),
+                block: 0,
+                offset: 0,
+                hops: 0,
+            },
+        }
     }
 }
 
@@ -80,28 +84,32 @@ const NOWHERE: TidPlace = TidPlace {
     after: 0,
 };
 
-pub fn place_asked(p: TidPlace) -> Visit
-    ensures { result ≡ place_asked p }
-{
-    Visit {
-        index: p.index,
-        block: p.block,
-        after: if p.held == 0 { None } else { Some(p.after) },
+impl From<TidPlace> for Visit {
+    ghost from_gives = { λ place visit. visit ≡ place_asked place };
+
+    fn from(place: TidPlace) -> Visit {
+        Visit {
+            index: place.index,
+            block: place.block,
+            after: (place.held != 0).then_some(place.after),
+        }
     }
 }
 
-fn next_told(v: Visit) -> TidPlace
-    ensures { result ≡ next_told v }
-{
-    let (held, after) = match v.after {
-        Some(after) => (1, after),
-        None => (0, 0),
-    };
-    TidPlace {
-        index: v.index,
-        block: v.block,
-        held,
-        after,
+impl From<Visit> for TidPlace {
+    ghost from_gives = { λ visit place. place ≡ next_told visit };
+
+    fn from(visit: Visit) -> TidPlace {
+        let (held, after) = match visit.after {
+            Some(after) => (1, after),
+            None => (0, 0),
+        };
+        TidPlace {
+            index: visit.index,
+            block: visit.block,
+            held,
+            after,
+        }
     }
 }
 
@@ -114,25 +122,27 @@ pub struct TidVisit {
     pub place: TidPlace,
 }
 
-pub fn begun_told(b: Result<Option<Visit>, Refusal>) -> TidVisit
-    ensures { result ≡ begun_told b }
-{
-    match b {
-        Ok(Some(visit)) => TidVisit {
-            code: 0,
-            more: 1,
-            place: next_told(visit),
-        },
-        Ok(None) => TidVisit {
-            code: 0,
-            more: 0,
-            place: NOWHERE,
-        },
-        Err(refusal) => TidVisit {
-            code: refusal.code(),
-            more: 0,
-            place: NOWHERE,
-        },
+impl From<Result<Option<Visit>, Refusal>> for TidVisit {
+    ghost from_gives = { λ begun told. told ≡ begun_told begun };
+
+    fn from(begun: Result<Option<Visit>, Refusal>) -> TidVisit {
+        match begun {
+            Ok(Some(visit)) => TidVisit {
+                code: 0,
+                more: 1,
+                place: visit.into(),
+            },
+            Ok(None) => TidVisit {
+                code: 0,
+                more: 0,
+                place: NOWHERE,
+            },
+            Err(refusal) => TidVisit {
+                code: refusal.code(),
+                more: 0,
+                place: NOWHERE,
+            },
+        }
     }
 }
 
@@ -146,28 +156,30 @@ pub struct TidStep {
     pub place: TidPlace,
 }
 
-pub fn step_told(s: Result<Step, Refusal>) -> TidStep
-    ensures { result ≡ step_told s }
-{
-    match s {
-        Ok(step) => {
-            let (more, place) = match step.next {
-                Some(next) => (1, next_told(next)),
-                None => (0, NOWHERE),
-            };
-            TidStep {
-                code: 0,
-                block: step.block,
-                more,
-                place,
+impl From<Result<Step, Refusal>> for TidStep {
+    ghost from_gives = { λ step told. told ≡ step_told step };
+
+    fn from(step: Result<Step, Refusal>) -> TidStep {
+        match step {
+            Ok(Step { block, next }) => {
+                let (more, place) = match next {
+                    Some(visit) => (1, visit.into()),
+                    None => (0, NOWHERE),
+                };
+                TidStep {
+                    code: 0,
+                    block,
+                    more,
+                    place,
+                }
             }
+            Err(refusal) => TidStep {
+                code: refusal.code(),
+                block: 0,
+                more: 0,
+                place: NOWHERE,
+            },
         }
-        Err(refusal) => TidStep {
-            code: refusal.code(),
-            block: 0,
-            more: 0,
-            place: NOWHERE,
-        },
     }
 }
 
@@ -182,39 +194,43 @@ pub struct TidCheck {
     pub pointer: u32,
 }
 
-fn fault_told(f: Fault) -> TidCheck
-    ensures { result ≡ fault_told f }
-{
-    let (kind, index, pointer) = match f {
-        Fault::NotBelow { index, pointer } => (1, index, pointer),
-        Fault::MetBefore { index, pointer } => (2, index, pointer),
-        Fault::Disagrees { index, pointer } => (3, index, pointer),
-        Fault::NotNull { index, pointer } => (4, index, pointer),
-    };
-    TidCheck {
-        code: 0,
-        kind,
-        index,
-        pointer,
+impl From<Fault> for TidCheck {
+    ghost from_gives = { λ fault told. told ≡ fault_told fault };
+
+    fn from(fault: Fault) -> TidCheck {
+        let (kind, index, pointer) = match fault {
+            Fault::NotBelow { index, pointer } => (1, index, pointer),
+            Fault::MetBefore { index, pointer } => (2, index, pointer),
+            Fault::Disagrees { index, pointer } => (3, index, pointer),
+            Fault::NotNull { index, pointer } => (4, index, pointer),
+        };
+        TidCheck {
+            code: 0,
+            kind,
+            index,
+            pointer,
+        }
     }
 }
 
-pub fn checked_told(a: Result<Option<Fault>, Refusal>) -> TidCheck
-    ensures { result ≡ checked_told a }
-{
-    match a {
-        Ok(Some(fault)) => fault_told(fault),
-        Ok(None) => TidCheck {
-            code: 0,
-            kind: 0,
-            index: 0,
-            pointer: 0,
-        },
-        Err(refusal) => TidCheck {
-            code: refusal.code(),
-            kind: 0,
-            index: 0,
-            pointer: 0,
-        },
+impl From<Result<Option<Fault>, Refusal>> for TidCheck {
+    ghost from_gives = { λ checked told. told ≡ checked_told checked };
+
+    fn from(checked: Result<Option<Fault>, Refusal>) -> TidCheck {
+        match checked {
+            Ok(Some(fault)) => fault.into(),
+            Ok(None) => TidCheck {
+                code: 0,
+                kind: 0,
+                index: 0,
+                pointer: 0,
+            },
+            Err(refusal) => TidCheck {
+                code: refusal.code(),
+                kind: 0,
+                index: 0,
+                pointer: 0,
+            },
+        }
     }
 }

@@ -16,15 +16,32 @@ pub struct TidTable {
     pub table: Table,
 }
 
-pub fn changed_told(c: Changed) -> TidTable
-    ensures { result ≡ changed_told c }
-{
-    TidTable {
-        code: match c.answer {
-            Ok(()) => 0,
-            Err(refusal) => refusal.code(),
-        },
-        table: c.table,
+impl From<Changed> for TidTable {
+    ghost from_gives = { λ changed told. told ≡ changed_told changed };
+
+    fn from(changed: Changed) -> TidTable {
+        TidTable {
+            code: match changed.answer {
+                Ok(()) => 0,
+                Err(refusal) => refusal.code(),
+            },
+            table: changed.table,
+        }
+    }
+}
+
+// A loaded table; on a refusal that of no files.
+impl From<Result<Table, Refusal>> for TidTable {
+    ghost from_gives = { λ loaded told. told ≡ loaded_told loaded };
+
+    fn from(loaded: Result<Table, Refusal>) -> TidTable {
+        match loaded {
+            Ok(table) => TidTable { code: 0, table },
+            Err(refusal) => TidTable {
+                code: refusal.code(),
+                table: Table::empty(),
+            },
+        }
     }
 }
 
@@ -35,15 +52,17 @@ pub struct TidSize {
     pub size: u32,
 }
 
-pub fn sized_told(s: Result<u32, Refusal>) -> TidSize
-    ensures { result ≡ sized_told s }
-{
-    match s {
-        Ok(size) => TidSize { code: 0, size },
-        Err(refusal) => TidSize {
-            code: refusal.code(),
-            size: 0,
-        },
+impl From<Result<u32, Refusal>> for TidSize {
+    ghost from_gives = { λ sized told. told ≡ sized_told sized };
+
+    fn from(sized: Result<u32, Refusal>) -> TidSize {
+        match sized {
+            Ok(size) => TidSize { code: 0, size },
+            Err(refusal) => TidSize {
+                code: refusal.code(),
+                size: 0,
+            },
+        }
     }
 }
 
@@ -54,15 +73,17 @@ pub struct TidSeek {
     pub position: u32,
 }
 
-pub fn sought_told(s: Result<u32, Refusal>) -> TidSeek
-    ensures { result ≡ sought_told s }
-{
-    match s {
-        Ok(position) => TidSeek { code: 0, position },
-        Err(refusal) => TidSeek {
-            code: refusal.code(),
-            position: 0,
-        },
+impl From<Result<u32, Refusal>> for TidSeek {
+    ghost from_gives = { λ sought told. told ≡ sought_told sought };
+
+    fn from(sought: Result<u32, Refusal>) -> TidSeek {
+        match sought {
+            Ok(position) => TidSeek { code: 0, position },
+            Err(refusal) => TidSeek {
+                code: refusal.code(),
+                position: 0,
+            },
+        }
     }
 }
 
@@ -74,27 +95,16 @@ pub struct TidSave {
     pub length: u32,
 }
 
-pub fn saved_told(s: Result<u32, Refusal>) -> TidSave
-    ensures { result ≡ saved_told s }
-{
-    match s {
-        Ok(length) => TidSave { code: 0, length },
-        Err(refusal) => TidSave {
-            code: refusal.code(),
-            length: 0,
-        },
-    }
-}
+impl From<Result<u32, Refusal>> for TidSave {
+    ghost from_gives = { λ saved told. told ≡ saved_told saved };
 
-// A loaded table; on a refusal that of no files.
-pub fn loaded_told(l: Result<Table, Refusal>) -> TidTable
-    ensures { result ≡ loaded_told l }
-{
-    match l {
-        Ok(table) => TidTable { code: 0, table },
-        Err(refusal) => TidTable {
-            code: refusal.code(),
-            table: Table::empty(),
-        },
+    fn from(saved: Result<u32, Refusal>) -> TidSave {
+        match saved {
+            Ok(length) => TidSave { code: 0, length },
+            Err(refusal) => TidSave {
+                code: refusal.code(),
+                length: 0,
+            },
+        }
     }
 }

@@ -10,55 +10,58 @@ use window::{Lookahead, Windowed};
 
 // A window handed back; on a refusal as it came, and that of zeros where none came.
 #[repr(C)]
-#[derive(Clone, Copy)]
+#[derive(Clone, Copy, Debug, PartialEq, Eq)]
 pub struct TidWindow {
     pub code: i32,
     pub window: Lookahead,
 }
 
-pub fn replied_told(reply: Windowed<Result<(), Refusal>>) -> TidWindow
-    ensures { result ≡ replied_told reply }
-{
-    let window = reply.window;
-    match reply.answer {
-        Ok(()) => TidWindow { code: 0, window },
-        Err(refusal) => TidWindow {
-            code: refusal.code(),
-            window,
-        },
+impl From<Windowed<Result<(), Refusal>>> for TidWindow {
+    ghost from_gives = { λ reply told. told ≡ replied_told reply };
+
+    fn from(reply: Windowed<Result<(), Refusal>>) -> TidWindow {
+        TidWindow {
+            code: match reply.answer {
+                Ok(()) => 0,
+                Err(refusal) => refusal.code(),
+            },
+            window: reply.window,
+        }
     }
 }
 
 // The block taken, and the window after it.
 #[repr(C)]
-#[derive(Clone, Copy)]
+#[derive(Clone, Copy, Debug, PartialEq, Eq)]
 pub struct TidAlloc {
     pub code: i32,
     pub block: u32,
     pub window: Lookahead,
 }
 
-pub fn allocated_told(allocated: Windowed<Result<u32, Refusal>>) -> TidAlloc
-    ensures { result ≡ allocated_told allocated }
-{
-    let window = allocated.window;
-    match allocated.answer {
-        Ok(block) => TidAlloc {
-            code: 0,
-            block,
-            window,
-        },
-        Err(refusal) => TidAlloc {
-            code: refusal.code(),
-            block: 0,
-            window,
-        },
+impl From<Windowed<Result<u32, Refusal>>> for TidAlloc {
+    ghost from_gives = { λ allocated told. told ≡ allocated_told allocated };
+
+    fn from(allocated: Windowed<Result<u32, Refusal>>) -> TidAlloc {
+        let window = allocated.window;
+        match allocated.answer {
+            Ok(block) => TidAlloc {
+                code: 0,
+                block,
+                window,
+            },
+            Err(refusal) => TidAlloc {
+                code: refusal.code(),
+                block: 0,
+                window,
+            },
+        }
     }
 }
 
 // The new last block of a list, where its data goes on, and the window after the growth.
 #[repr(C)]
-#[derive(Clone, Copy)]
+#[derive(Clone, Copy, Debug, PartialEq, Eq)]
 pub struct TidExtend {
     pub code: i32,
     pub block: u32,
