@@ -47,34 +47,43 @@ module _ (look : List ℕ → ℕ → Look) (img : List ℕ) (B : ℕ) where
   found_at true h k e = (refl, cc)
   found_at false h k e = let z : ◌≡◌ {A = ℕ} 0 1 = cc in absurd (omega arith)
 
+  -- what the head of the first growth tells
+  pub head_found : (q h : ℕ) → kept_of look B img q ≡ Look.Found h → (looked (look img) (kept_wanted B q) ≡ true) × (first_head (look img) q ≡ h)
+  unfolding kept_of
+  head_found q h e = found_at _ _ h e
+
+  pub head_missed : (q : ℕ) → kept_of look B img q ≡ Look.Lost → looked (look img) (kept_wanted B q) ≡ false
+  unfolding kept_of
+  head_missed q e = lost_at _ _ e
+
   module _ (q over' old : ℕ) where
     -- a kept block is lost
     pub head_lost : kept_of look B img q ≡ Look.Lost → Err Damaged ≡ head_of look B img q over' old
-    unfolding kept_of head_of
-    head_lost e = rw (head_of, lost_at _ _ e)
+    unfolding head_of
+    head_lost e = rw (head_of, head_missed q e)
 
     module _ {h : ℕ} (e : kept_of look B img q ≡ Look.Found h) where
       -- a block of the tail is lost
       pub head_tailless : looked (look img) (tail_wanted B over' old) ≡ false → Err Damaged ≡ head_of look B img q over' old
-      unfolding kept_of head_of
-      head_tailless f = let k = found_at _ _ h e in rw (head_of, k.0, f)
+      unfolding head_of
+      head_tailless f = let k = head_found q h e in rw (head_of, k.0, f)
 
       -- all is found
-      pub head_found : looked (look img) (tail_wanted B over' old) ≡ true → Ok h ≡ head_of look B img q over' old
-      unfolding kept_of head_of
-      head_found f = let k = found_at _ _ h e in rw (head_of, k.0, f, k.1)
+      pub head_whole : looked (look img) (tail_wanted B over' old) ≡ true → Ok h ≡ head_of look B img q over' old
+      unfolding head_of
+      head_whole f = let k = head_found q h e in rw (head_of, k.0, f, k.1)
 
   -- what the lookups tell
-  head_whole : (j : Job) → head_of look B img (kept j) (over j) j.old ≡ looked_of (found_if (looked (look img) (wanted B j)) (first_head (look img) (kept j)))
+  head_wanted : (j : Job) → head_of look B img (kept j) (over j) j.old ≡ looked_of (found_if (looked (look img) (wanted B j)) (first_head (look img) (kept j)))
   unfolding head_of
-  head_whole j = rw (head_of, wanted_looked j)
+  head_wanted j = rw (head_of, wanted_looked j)
 
   pub none_found : (j : Job) (r : Refusal) → head_of look B img (kept j) (over j) j.old ≡ Err r → (looked (look img) (wanted B j) ≡ false) × (Damaged ≡ r)
-  none_found j r e = let t = told_lost _ r (sym (head_whole j) ∙ e) in (lost_at _ _ t.0, t.1)
+  none_found j r e = let t = told_lost _ r (sym (head_wanted j) ∙ e) in (lost_at _ _ t.0, t.1)
 
   pub all_found : (j : Job) (h : ℕ) → head_of look B img (kept j) (over j) j.old ≡ Ok h
       → (looked (look img) (wanted B j) ≡ true) × (first_head (look img) (kept j) ≡ h)
-  all_found j h e = found_at _ _ h (told_block _ h (sym (head_whole j) ∙ e))
+  all_found j h e = found_at _ _ h (told_block _ h (sym (head_wanted j) ∙ e))
 
 module _ {B N l : ℕ} {img health : List ℕ} {t : Table} {w : Lookahead} {e : Entry} {pos : ℕ} {src : List ℕ}
     (x : Putting B N l img health t w e pos src) where

@@ -4,7 +4,7 @@ use Rattle.std.specs.Prelude.{Err}
 use Rattle.std.proofs.lemmas.Result.{err_from_is_err_and}
 use Rattle.old_list.proofs.Looks.{told_block, told_lost, told_all, told_missed}
 use Rattle.old_list.specs.inner.Lookups.{look_in}
-use Rattle.new_list.proofs.Puts.{head_lost, head_tailless, head_found}
+use Rattle.new_list.proofs.Puts.{head_lost, head_tailless, head_whole}
 use Rattle.new_list.proofs.looked_up.Goals as goal
 
 pub returns-in_err-head : goal.returns-in_err-head
@@ -28,5 +28,5 @@ pub returns : goal.returns
 returns c =
     let a = c.args in
     let h = rw c.min.ensures at c.first_head.ensures in
-    head_found (look_in a.b a.n a.e) a.image.now a.b _ a.over a.e.size (told_block _ _ (sym h ∙ c.in_ok-head.was))
+    head_whole (look_in a.b a.n a.e) a.image.now a.b _ a.over a.e.size (told_block _ _ (sym h ∙ c.in_ok-head.was))
     (told_all _ (sym c.tail_looked.ensures ∙ c.in_ok-tail_looked.was))
