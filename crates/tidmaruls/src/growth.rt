@@ -28,5 +28,5 @@ pub extern "C" fn tid_extend(
         (record { window = w; table = t; image = image.old })
         (record { head = head; size = size })).image) }
 {
-    told_windows::grew_told(grow::ctz_extend(g, lookahead, image, health, t, w, head, size))
+    TidExtend::from(grow::ctz_extend(g, lookahead, image, health, t, w, head, size))
 }

@@ -29,7 +29,7 @@ pub extern "C" fn tid_write(
         (record { window = w; table = t; image = image.old })
         (record { number = number; position = pos; bytes = «data».now })).state.image) }
 {
-    told_files::stored_told(store::write(g, lookahead, image, health, w, t, number, pos, data))
+    TidStore::from(store::write(g, lookahead, image, health, w, t, number, pos, data))
 }
 
 // A file cut down to `size` bytes, or grown to it with zeros.
@@ -51,5 +51,5 @@ pub extern "C" fn tid_truncate(
         (record { window = w; table = t; image = image.old })
         (record { number = number; size = size })).state.image) }
 {
-    told_files::stored_told(store::truncate(g, lookahead, image, health, w, t, number, size))
+    TidStore::from(store::truncate(g, lookahead, image, health, w, t, number, size))
 }

@@ -69,24 +69,17 @@ pub struct TidStore {
     pub table: Table,
 }
 
-pub fn stored_told(s: Stored) -> TidStore
-    ensures { result ≡ stored_told s }
-{
-    let Stored {
-        answer,
-        window,
-        table,
-    } = s;
-    match answer {
-        Ok(()) => TidStore {
-            code: 0,
-            window,
-            table,
-        },
-        Err(refusal) => TidStore {
-            code: refusal.code(),
-            window,
-            table,
-        },
+impl From<Stored> for TidStore {
+    ghost from_gives = { λ stored told. told ≡ stored_told stored };
+
+    fn from(stored: Stored) -> TidStore {
+        TidStore {
+            code: match stored.answer {
+                Ok(()) => 0,
+                Err(refusal) => refusal.code(),
+            },
+            window: stored.window,
+            table: stored.table,
+        }
     }
 }

@@ -69,22 +69,24 @@ pub struct TidExtend {
     pub window: Lookahead,
 }
 
-pub fn grew_told(grew: Windowed<Result<Grown, Refusal>>) -> TidExtend
-    ensures { result ≡ grew_told grew }
-{
-    let window = grew.window;
-    match grew.answer {
-        Ok(Grown { block, offset }) => TidExtend {
-            code: 0,
-            block,
-            offset,
-            window,
-        },
-        Err(refusal) => TidExtend {
-            code: refusal.code(),
-            block: 0,
-            offset: 0,
-            window,
-        },
+impl From<Windowed<Result<Grown, Refusal>>> for TidExtend {
+    ghost from_gives = { λ grew told. told ≡ grew_told grew };
+
+    fn from(grew: Windowed<Result<Grown, Refusal>>) -> TidExtend {
+        let window = grew.window;
+        match grew.answer {
+            Ok(Grown { block, offset }) => TidExtend {
+                code: 0,
+                block,
+                offset,
+                window,
+            },
+            Err(refusal) => TidExtend {
+                code: refusal.code(),
+                block: 0,
+                offset: 0,
+                window,
+            },
+        }
     }
 }
