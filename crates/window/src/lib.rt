@@ -4,9 +4,9 @@
 pub mod map;
 pub mod setup;
 
-ghost use Rattle.std.specs.Prelude.{◌≡◌, ◌≤◌};
+ghost use Rattle.std.specs.Prelude.{◌≡◌, ◌-◌, ◌≤◌};
 ghost use Rattle.window.specs.Value.{checkpoint_of, dropped_of, valid_of, lookahead_fits};
-ghost use Rattle.window.specs.Allocate.{take_of};
+ghost use Rattle.window.specs.Allocate.{moved, take_of};
 ghost use Rattle.window.specs.Scan.{cleared};
 ghost use Rattle.window.specs.inner.Facts.{Searchable, scope};
 
@@ -48,6 +48,18 @@ pub fn alloc_drop(w: Lookahead, n: u32) -> Lookahead
     }
 }
 
+// The window moved on to offset `to`; each block passed lowers the count.
+fn moved(w: Lookahead, to: u32) -> Lookahead
+    requires { (w.next ≤ to) × (to - w.next ≤ w.ckpoint) }
+    ensures { result ≡ moved w to }
+{
+    Lookahead {
+        next: to,
+        ckpoint: w.ckpoint - (to - w.next),
+        ..w
+    }
+}
+
 // The first unmarked block, and the window moved on to the next unmarked offset or the end; each block passed lowers the count.
 #[tactic(auto, using(crate::proofs::Search::stops_behind, crate::proofs::Search::stops_within, std::proofs::lemmas::Bool::Decides::nat_tests), unfolding(crate::specs::Allocate::take_of))]
 pub fn take(w: Lookahead, n: u32) -> Windowed<Option<u32>>
@@ -55,16 +67,17 @@ pub fn take(w: Lookahead, n: u32) -> Windowed<Option<u32>>
     ensures { result ≡ take_of n w }
 {
     let at = map::next_free(&w.map, w.next, w.size);
-    let (answer, next) = if at < w.size {
-        let block = (w.start + at) % n;
-        (Some(block), map::next_free(&w.map, at + 1, w.size))
+    if at < w.size {
+        let to = map::next_free(&w.map, at + 1, w.size);
+        Windowed {
+            answer: Some((w.start + at) % n),
+            window: moved(w, to),
+        }
     } else {
-        (None, at)
-    };
-    let ckpoint = w.ckpoint - (next - w.next);
-    Windowed {
-        answer,
-        window: Lookahead { next, ckpoint, ..w },
+        Windowed {
+            answer: None,
+            window: moved(w, at),
+        }
     }
 }
 
