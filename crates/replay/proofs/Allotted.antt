@@ -1,13 +1,15 @@
 -- What the records on a card's blocks ask, from the words, parts and windows that were read. Assumes nothing.
 use mathlib.Core.Path.{◌≡◌, refl, sym, ap, ◌∙◌}
-use mathlib.Core.Bool.{Bool, true, false, ◌&&◌}
-use mathlib.Core.List.{List, [], ◌∷◌}
+use mathlib.Core.Bool.{Bool, true, false}
+use mathlib.Core.List.{List, [], ◌∷◌, ◌++◌}
 use Prim.Native.Nat.{ℕ, ◌≤◌}
 use native.Mathlib.Omega.{arith}
-use borrow.Author.Tests.{eq-eqb, eqb-true, le-leb}
-use lib.Dec.{eqb}
+use borrow.Author.Tests.{eq-eqb, eqb-true, le-leb, leb-true}
+use lib.Dec.{eqb, leb}
 use lib.ListN.{length, take, drop}
-use lib.Seq.{sets, take-length}
+use lib.Seq.{sets, take-length, take-append_seam}
+use Rattle.std.specs.Prelude.{Option, Some, None, is_none}
+use Rattle.std.proofs.lemmas.List.{length-take-le}
 use Rattle.span.proofs.Parts.{part_sets}
 use Rattle.layout.specs.declared.Geometry.{Geometry}
 use Rattle.files.specs.declared.Table.{Table}
@@ -20,8 +22,7 @@ use Rattle.grow.specs.inner.Gives.{GrewGives}
 use Rattle.told_windows.specs.declared.TidExtend.{TidExtend}
 use Rattle.told_windows.specs.Windows.{grew_told}
 use Rattle.records.specs.Records.{word_of, bytes_at, geometry_of, image_of, window_of, table_at}
-use Rattle.records.specs.Agreement.{bare_of, told_of, windows_agree}
-use Rattle.replay.specs.Blocks.{bytes_agree, extend_on, grew_equal, grown_equal, extend_equal}
+use Rattle.replay.specs.Blocks.{bytes_agree, grew_equal, grown_equal, extend_equal, grown_on, answer_on}
 
 -- the same bytes
 bytes_refl : (a : List ℕ) → bytes_agree a a ≡ true
@@ -47,50 +48,68 @@ bytes_decide a b false f g = go (bytes_agree a b) refl
     go true h = g (bytes_same a b h)
     go false h = refl
 
--- a growth on an image of a card, and the record of it
-pub extend_on_lem : (list : List ℕ) (card l p q : ℕ) (g : Geometry) (health : List ℕ) (t : Table) (w : Lookahead) (h s : ℕ) (image : List ℕ) (r : Windowed Growth) (after : List ℕ)
+-- the growth that the question asks, from the words, parts and windows that were read
+pub grew_on : (list : List ℕ) (at card l p q u h s : ℕ) (before copy : List ℕ) (g : Geometry) (health : List ℕ) (t : Table) (w : Lookahead) (r : Windowed Growth) (after : List ℕ)
+    → card ≡ word_of list at 4
+    → before ≡ image_of list card
+    → copy ≡ before
     → g ≡ geometry_of list card
     → l ≡ word_of list card 2
     → p ≡ word_of list card 5
     → health ≡ bytes_at list p g.block_count
     → q ≡ word_of list card 6
     → t ≡ table_at list q
-    → GrewGives (extend_of (setting g.block_size g.block_count l health) (state w t image) (record { head = h; size = s })) r after
-    → GrewGives (extend_on list card image w h s) r after
-extend_on_lem list card l p q g health t w h s image r after a b c d e f x = rw (f, e, d, c, b, a) at x
+    → u ≡ word_of list at 5
+    → w ≡ window_of list u
+    → h ≡ word_of list at 7
+    → s ≡ word_of list at 8
+    → GrewGives (extend_of (setting g.block_size g.block_count l health) (state w t copy) (record { head = h; size = s })) r after
+    → GrewGives (grown_on list at) r after
+grew_on list at card l p q u h s before copy g health t w r after a b c d e f i j k m n o v x =
+    rw (v, o, n, m, k, j, i, f, e, d, c, b, a) at x
 
-module _ (list : List ℕ) (at card p h s : ℕ) (w : Lookahead) (image : List ℕ) (r : Windowed Growth) (after : List ℕ) (a : p ≡ word_of list at 5) (b : w ≡ window_of list p)
-    (c : h ≡ word_of list at 7) (d : s ≡ word_of list at 8) (x : GrewGives (extend_on list card image w h s) r after) (whole : Bool) where
-  grown : (t : Bool) → whole ≡ t → grown_equal whole list at card image ≡ grew_equal t list at (extend_on list card image w h s)
-  unfolding grown_equal
-  grown t e = rw (grown_equal, e, b, a, c, d)
+module _ (list : List ℕ) (at card : ℕ) (before : List ℕ) (a : card ≡ word_of list at 4) (b : before ≡ image_of list card) (r : Windowed Growth) (after : List ℕ) (x : GrewGives (grown_on list at) r after) where
+  -- there is room, and the answer is told
+  pub answer_is : (answer : TidExtend) → answer ≡ grew_told r → length before ≤ 2048 → Some answer ≡ answer_on list at
+  answer_is answer k h =
+      let e : length (image_of list (word_of list at 4)) ≤ 2048 = rw (← a, ← b) h in
+      rw (k, x.answer, x.window, answer_on, le-leb (length (image_of list (word_of list at 4))) 2048 e)
 
-  pub image_decides : (q : ℕ) (wanted : List ℕ) (y : Bool) → whole ≡ true → q ≡ word_of list at 9 → wanted ≡ bytes_at list q (length after) → (y ≡ true → after ≡ wanted)
-      → (after ≡ wanted → y ≡ true)
-      → y ≡ grown_equal whole list at card image
-  unfolding grew_equal
-  image_decides q wanted y e u v f g =
-      bytes_decide after wanted y f g ∙ sym (grown true e ∙ rw (grew_equal, ← x.image, ← u, ← v))
-
-  module _ (answer : TidExtend) (k : answer ≡ grew_told r) (e : whole ≡ false) (q : ℕ) (then : Lookahead) (u : q ≡ word_of list at 6) (v : then ≡ window_of list q) where
-    parts : grown_equal whole list at card image ≡ (windows_agree answer.window then && told_of list at (bare_of answer.code) answer.block answer.offset 0)
-    unfolding grew_equal
-    parts = grown false e ∙ rw (grew_equal, k, v, u, x.window, x.answer)
-
-    pub grown_other : windows_agree answer.window then ≡ false → false ≡ grown_equal whole list at card image
-    grown_other n = sym (parts ∙ rw n)
-
-    pub grown_same : (code : ℕ) (y : Bool) → windows_agree answer.window then ≡ true → code ≡ bare_of answer.code → y ≡ told_of list at code answer.block answer.offset 0
-        → y ≡ grown_equal whole list at card image
-    grown_same code y n i f = f ∙ ap (λ (m : ℕ). told_of list at m answer.block answer.offset 0) i ∙ sym (parts ∙ rw n)
+  -- the image stands in front of what the space has beyond
+  pub image_is : (rest : List ℕ) → length after ≡ length before → take (length (image_of list (word_of list at 4))) (after ++ rest) ≡ (grown_on list at).image
+  image_is rest h = rw (← a, ← b, ← h) (take-append_seam after rest) ∙ x.image
 
 -- the front of a space that bytes were copied to
 pub front : (space after image : List ℕ) → length image ≤ length space → after ≡ sets space 0 (take (length image) (drop 0 image)) → take (length image) after ≡ image
 front space after image h e =
     ap (take (length image)) (e ∙ ap (sets space 0) (take-length image)) ∙ part_sets space 0 image (omega arith)
 
--- the image of a card, copied
-module _ (list : List ℕ) (at card : ℕ) (image : List ℕ) (whole : Bool) (a : card ≡ word_of list at 4) (b : image ≡ image_of list card) where
-  pub copied : (copy : List ℕ) (r : Bool) → length image ≤ 2048 → copy ≡ image → r ≡ grown_equal whole list at card copy → r ≡ extend_equal whole list at
-  unfolding extend_equal
-  copied copy r h e q = q ∙ rw (e, extend_equal, ← a, ← b, le-leb (length image) 2048 h, ← a, ← b)
+-- where a growth answers, there is room
+pub room : (list : List ℕ) (at : ℕ) (o : Option TidExtend) → o ≡ answer_on list at → is_none o ≡ false → length (image_of list (word_of list at 4)) ≤ 2048
+room list at o e n = go (leb (length (image_of list (word_of list at 4))) 2048) refl
+  where
+    go : (t : Bool) → leb (length (image_of list (word_of list at 4))) 2048 ≡ t → length (image_of list (word_of list at 4)) ≤ 2048
+    go true h = leb-true (length (image_of list (word_of list at 4))) 2048 h
+    go false h =
+        let f : o ≡ None = e ∙ rw (answer_on, h) in
+        let z : ◌≡◌ {A = Bool} true false = rw f at n in
+        let u : ◌≡◌ {A = ℕ} 0 1 = cc in absurd (omega arith)
+
+-- the image is compared whole
+pub image_same : (list : List ℕ) (at card q : ℕ) (before space wanted : List ℕ) (y : Bool)
+    → card ≡ word_of list at 4
+    → before ≡ image_of list card
+    → q ≡ word_of list at 9
+    → wanted ≡ bytes_at list q (length before)
+    → length (image_of list (word_of list at 4)) ≤ 2048
+    → length space ≡ 2048
+    → take (length (image_of list (word_of list at 4))) space ≡ (grown_on list at).image
+    → (y ≡ true → take (length before) space ≡ wanted)
+    → (take (length before) space ≡ wanted → y ≡ true)
+    → y ≡ extend_equal true list at
+unfolding extend_equal grown_equal grew_equal
+image_same list at card q before space wanted y a b u v h k x f g =
+    let n : length (grown_on list at).image ≡ length (image_of list (word_of list at 4)) =
+    sym (ap length x) ∙ length-take-le (length (image_of list (word_of list at 4))) space (omega arith) in
+    bytes_decide (take (length before) space) wanted y f g
+    ∙ rw (extend_equal, le-leb (length (image_of list (word_of list at 4))) 2048 h, grown_equal, grew_equal, n, v, u, b, a, x)

@@ -1,5 +1,5 @@
 -- Records on the blocks of a card: one allocation and one growth.
-use Rattle.std.specs.Prelude.{Bool, true, false, ◌&&◌, List, [], ◌∷◌, ℕ, leb, eqb, length}
+use Rattle.std.specs.Prelude.{Bool, true, false, Option, Some, None, ◌&&◌, List, [], ◌∷◌, ℕ, leb, eqb, length}
 use Rattle.card.specs.inner.Cards.{card_with}
 use Rattle.window.specs.Allocate.{Allocated}
 use Rattle.window.specs.declared.Lookahead.{Lookahead}
@@ -59,3 +59,13 @@ extend_equal whole list at =
       | true ↦ grown_equal whole list at (word_of list at 4) (image_of list (word_of list at 4))
       | false ↦ false
     ]
+
+-- the growth that the question asks, on the card's image
+abbrev pub grown_on : List ℕ → ℕ → GrowOut Lookahead
+grown_on list at =
+    extend_on list (word_of list at 4) (image_of list (word_of list at 4)) (window_of list (word_of list at 5)) (word_of list at 7) (word_of list at 8)
+
+-- what it answers, where there is room for the image
+abbrev pub answer_on : List ℕ → ℕ → Option TidExtend
+answer_on list at =
+    elim (leb (length (image_of list (word_of list at 4))) 2048) [ true ↦ Some (extend_told (grown_on list at)) | false ↦ None ]

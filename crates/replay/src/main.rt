@@ -53,8 +53,8 @@ impl Kind {
             Kind::Find => lists::find(list, at),
             Kind::Visit => lists::visit(list, at),
             Kind::Alloc => blocks::alloc(list, at),
-            Kind::Extend => blocks::extend(list, at, false),
-            Kind::Image => blocks::extend(list, at, true),
+            Kind::Extend => blocks::extend(list, at),
+            Kind::Image => blocks::extended_image(list, at),
             Kind::Seek => seeks::seek(list, at),
         }
     }
