@@ -5,6 +5,7 @@ ghost use Rattle.device.specs.inner.Bounds.{Blank};
 ghost use Rattle.grow.specs.inner.Attempt.{attempt_of, try_of, LinkGives, Linking, put_pointers};
 
 use crate::Growth;
+use card::Card;
 use device::Spoiled;
 
 // What a try with one block gives: the growth's answer, or that the block refused.
@@ -38,7 +39,12 @@ fn put_pointers(
         if programs::program_word(image, health, b, k, 4 * x, cur).is_err() {
             return Linked::Spoiled;
         }
-        cur = card::pointer(&image[..], b, cur, x);
+        let card = Card {
+            block_size: b,
+            block_count: n,
+            image: &image[..],
+        };
+        cur = card.pointer(cur, x);
         x += 1;
     }
     Linked::Done(Growth::Grown {

@@ -9,6 +9,7 @@ ghost use Rattle.ctz.specs.inner.Bounds.{ListFacts};
 ghost use Rattle.old_list.specs.Write.{looked};
 ghost use Rattle.old_list.specs.inner.Lookups.{looked_of, kept_of, tail_wanted, Behind, look_in};
 
+use card::Card;
 use files::Entry;
 use layout::Geometry;
 
@@ -39,7 +40,12 @@ pub fn look(b: u32, n: u32, image: &[u8], e: Entry, p: u32) -> Looked
         }
         return Looked::Lost;
     }
-    match ctz::find_in(b, n, image, e.head, e.size, p) {
+    let card = Card {
+        block_size: b,
+        block_count: n,
+        image,
+    };
+    match ctz::find_in(card, e.head, e.size, p) {
         Ok(found) => Looked::Block(found.block),
         Err(_) => Looked::Lost,
     }
@@ -54,7 +60,12 @@ fn look_before(b: u32, n: u32, image: &[u8], e: Entry, q: u32, first: u32) -> Lo
         if n <= e.head {
             return Looked::Lost;
         }
-        let block = card::pointer(image, b, e.head, 0);
+        let card = Card {
+            block_size: b,
+            block_count: n,
+            image,
+        };
+        let block = card.pointer(e.head, 0);
         if n <= block {
             return Looked::Lost;
         }

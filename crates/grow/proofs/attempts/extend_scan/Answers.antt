@@ -1,6 +1,6 @@
 -- `grow::attempts::extend_scan` meets its contract: what is left to do equals the whole growth (`Rest`), and each try lowers the checkpoint count. Assumes nothing.
 use native.Mathlib.Omega.{arith}
-use Rattle.grow.proofs.Extends.{rest_start, rest_ready, block_linking, falls, moves_on, ends_done, ends_full, ends_damaged}
+use Rattle.grow.proofs.Extends.{rest_start, rest_looking, block_linking, falls, moves_on, ends_done, ends_full, ends_damaged}
 use borrow.Author.Rules.{rules}
 use Rattle.grow.proofs.attempts.extend_scan.Goals as goal
 
@@ -10,7 +10,7 @@ loop-k-init c =
 
 pub alloc_in-took-requires : goal.alloc_in-took-requires
 alloc_in-took-requires c =
-    rest_ready c.requires c.loop-k.invariant
+    rest_looking c.requires c.loop-k.invariant
 
 pub try_block-linked-requires : goal.try_block-linked-requires
 try_block-linked-requires c =

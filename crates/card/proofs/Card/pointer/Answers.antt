@@ -1,7 +1,7 @@
--- `card::pointer` meets its contract: the part that is lent is the block, and its word at 4x is the pointer. Assumes nothing.
+-- `card::Card::pointer` meets its contract: the part that is lent is the block, and its word at 4x is the pointer. Assumes nothing.
 use native.Mathlib.Nat.{add-sub_cancel_left}
 use Rattle.card.specs.Card.{pointer}
-use Rattle.card.proofs.pointer.Goals as goal
+use Rattle.card.proofs.Card.pointer.Goals as goal
 
 pub returns : goal.returns
 unfolding pointer
