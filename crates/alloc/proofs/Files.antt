@@ -9,7 +9,7 @@ use Rattle.layout.specs.declared.Refusal.TheVariants.{Damaged}
 use Rattle.layout.specs.Layout.{index_at}
 use Rattle.layout.specs.inner.Served.{block_list}
 use Rattle.card.specs.Card.{pointer}
-use Rattle.card.specs.inner.Cards.{card_with}
+use Rattle.card.specs.inner.Cards.{CardFacts, card_with}
 use Rattle.ctz.specs.Visits.{Visited, visit_of}
 use Rattle.ctz.specs.inner.Held.{visit_at, hand_on}
 use Rattle.ctz.proofs.Visiting.{visit_from, visit_begins, visit_empty}
@@ -20,8 +20,8 @@ use Rattle.alloc.specs.Visits.{seen_from}
 use Rattle.alloc.specs.inner.Facts.{FileAsked, FileMarked}
 
 -- a block that the visit hands over can be marked
-pub mark_asked : {start size B N len k : ℕ} {e : Entry} → FileAsked start size B N len e → k < N → MarkAsked start size N k
-mark_asked f h = record { few = f.card.few; start_lt = f.start_lt; size_le = f.size_le; block_lt = h }
+pub mark_asked : {start size B N len k : ℕ} {e : Entry} → CardFacts B N len → FileAsked start size N e → k < N → MarkAsked start size N k
+mark_asked c f h = record { few = c.few; start_lt = f.start_lt; size_le = f.size_le; block_lt = h }
 
 -- a visit that marks from the map `before` on comes to what another does that marks from the map `now` on
 pub record Goes (start size N : ℕ) (before : List ℕ) (whole : Visited) (now : List ℕ) (rest : Visited) : Type 0 where

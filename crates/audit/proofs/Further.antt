@@ -32,7 +32,7 @@ down_none ptr k = refl
 module _ {image : List ℕ} {B N : ℕ} where
   pub fewer : {i k : ℕ} (j : ℕ) → j ≤ i → CleanWalk image B N i k → CleanWalk image B N j k
   fewer j h c = record {
-    walks = record { card = c.walks.card; room = λ e g. c.walks.room e (omega arith) };
+    walks = record { room = λ e g. c.walks.room e (omega arith) };
     below = λ e g. c.below e (omega arith);
   }
 

@@ -1,15 +1,15 @@
 // The list check: sound, or its first fault.
 #![tactic(auto)]
 
-ghost use Rattle.std.specs.Prelude.{◌≡◌, [], length};
+ghost use Rattle.std.specs.Prelude.{◌≡◌, []};
 ghost use Rattle.hops.specs.Walk.{ctz};
 ghost use Rattle.card.specs.Card.{card_of, pointer};
-ghost use Rattle.card.specs.inner.Cards.{CardFacts};
 ghost use Rattle.ctz.specs.Lists.{down};
 ghost use Rattle.ctz.specs.inner.Forms.{pointers_with};
 ghost use Rattle.audit.specs.Check.{falls, names, further, check_of};
 ghost use Rattle.audit.specs.inner.Bounds.{holder, CleanWalk, Holding};
 
+use card::Card;
 use layout::{Geometry, Refusal};
 use span::bits;
 
@@ -27,14 +27,13 @@ pub enum Fault {
 }
 
 // The walk by pointer 0 from index top, whose block should be head, down to index 0; the numbers met are kept in a map of bits.
-fn walk_down(b: u32, n: u32, image: &[u8], top: u32, head: u32) -> Option<Fault>
-    requires { CardFacts b n (length image.now) }
-    ensures { result ≡ falls (pointers_with n (pointer b image.now)) top head [] }
+fn walk_down(card: Card<'_>, top: u32, head: u32) -> Option<Fault>
+    ensures { result ≡ falls (pointers_with card.entry.block_count (pointer card.entry.block_size card.entry.image.now)) top head [] }
 {
     let mut met = [0u8; 8192];
     let mut k = head;
     for index in (0..=top).rev() {
-        if n <= k {
+        if card.block_count <= k {
             return Some(Fault::NotBelow { index, pointer: 0 });
         }
         if bits::is_set(&met, k) {
@@ -42,7 +41,7 @@ fn walk_down(b: u32, n: u32, image: &[u8], top: u32, head: u32) -> Option<Fault>
         }
         bits::set(&mut met, k);
         if 0 < index {
-            k = card::pointer(image, b, k, 0);
+            k = card.pointer(k, 0);
         }
     }
     None
@@ -50,25 +49,25 @@ fn walk_down(b: u32, n: u32, image: &[u8], top: u32, head: u32) -> Option<Fault>
 
 // The number that lies d indexes below block k, by pointer 0.
 #[tactic(auto, unfolding(ctz::specs::Lists::down))]
-fn below_in(b: u32, n: u32, image: &[u8], k: u32, d: u32) -> u32
-    requires { CleanWalk image.now b n d k }
-    ensures { result ≡ down (pointer b image.now) k d }
+fn below_in(card: Card<'_>, k: u32, d: u32) -> u32
+    requires { CleanWalk card.image.now card.block_size card.block_count d k }
+    ensures { result ≡ down (pointer card.entry.block_size card.entry.image.now) k d }
 {
     let mut at = k;
     for _ in 0..d {
-        at = card::pointer(image, b, at, 0);
+        at = card.pointer(at, 0);
     }
     at
 }
 
 // The further pointers of an index, whose block is k: pointer x names the block that lies 2 to the x indexes below.
-fn pointers_at(b: u32, n: u32, image: &[u8], index: u32, k: u32) -> Option<Fault>
-    requires { Holding image.now b n index k }
-    ensures { result ≡ names (pointer b image.now) (ctz index) (holder index k) 1 }
+fn pointers_at(card: Card<'_>, index: u32, k: u32) -> Option<Fault>
+    requires { Holding card.image.now card.block_size card.block_count index k }
+    ensures { result ≡ names (pointer card.entry.block_size card.entry.image.now) (ctz index) (holder index k) 1 }
 {
     for pointer in 1..=u32::trailing_zeros(index) {
-        let named = card::pointer(image, b, k, pointer);
-        if named != below_in(b, n, image, k, ctz::power(pointer)) {
+        let named = card.pointer(k, pointer);
+        if named != below_in(card, k, ctz::power(pointer)) {
             return Some(Fault::Disagrees { index, pointer });
         }
     }
@@ -76,16 +75,16 @@ fn pointers_at(b: u32, n: u32, image: &[u8], index: u32, k: u32) -> Option<Fault
 }
 
 // The further pointers of each index from top, whose block is head, down to index 1.
-fn further_from(b: u32, n: u32, image: &[u8], top: u32, head: u32) -> Option<Fault>
-    requires { CleanWalk image.now b n top head }
-    ensures { result ≡ further (pointer b image.now) top head }
+fn further_from(card: Card<'_>, top: u32, head: u32) -> Option<Fault>
+    requires { CleanWalk card.image.now card.block_size card.block_count top head }
+    ensures { result ≡ further (pointer card.entry.block_size card.entry.image.now) top head }
 {
     let mut k = head;
     for index in (1..=top).rev() {
-        if let Some(fault) = pointers_at(b, n, image, index, k) {
+        if let Some(fault) = pointers_at(card, index, k) {
             return Some(fault);
         }
-        k = card::pointer(image, b, k, 0);
+        k = card.pointer(k, 0);
     }
     None
 }
@@ -96,9 +95,7 @@ fn further_from(b: u32, n: u32, image: &[u8], top: u32, head: u32) -> Option<Fau
 pub fn ctz_check(g: Geometry, image: &[u8], head: u32, size: u32) -> Result<Option<Fault>, Refusal>
     ensures { result ≡ check_of (card_of g image.now) (record { head = head; size = size }) }
 {
-    if !card::good_card(g, image.len()) {
-        return Err(Refusal::Invalid);
-    }
+    let card = Card::new(g, image)?;
     if Geometry::FILE_MAX < size {
         return Err(Refusal::Invalid);
     }
@@ -111,9 +108,9 @@ pub fn ctz_check(g: Geometry, image: &[u8], head: u32, size: u32) -> Result<Opti
             pointer: 0,
         }));
     }
-    let top = layout::index_at(g.block_size, size - 1);
-    if let Some(fault) = walk_down(g.block_size, g.block_count, image, top, head) {
+    let top = layout::index_at(card.block_size, size - 1);
+    if let Some(fault) = walk_down(card, top, head) {
         return Ok(Some(fault));
     }
-    Ok(further_from(g.block_size, g.block_count, image, top, head))
+    Ok(further_from(card, top, head))
 }

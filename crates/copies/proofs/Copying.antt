@@ -12,14 +12,13 @@ use Rattle.layout.proofs.Bits.{trailing_lt}
 use Rattle.layout.proofs.Laws.{pointers_pos}
 use Rattle.layout.proofs.Places.{index_mono}
 use Rattle.card.specs.Card.{pointer}
-use Rattle.card.specs.inner.Cards.{card_with}
+use Rattle.card.specs.inner.Cards.{CardFacts, card_with}
 use Rattle.ctz.specs.Lookup.{found_at, walk_to}
 use Rattle.ctz.specs.inner.Runs.{Finds}
 use Rattle.plain.specs.Reading.{gather, Gathered}
 use Rattle.plain.specs.inner.Forms.{range}
-use Rattle.finding.specs.inner.Bounds.{Ranged}
 use Rattle.finding.specs.inner.Runs.{Reached, Indexed, Held, Turning, Turned, clean, got_bytes}
-use Rattle.finding.proofs.Gathers.{Step, step, offset_below, clean_turn, copy_keeps, copy_turn, all_none}
+use Rattle.finding.proofs.Gathers.{OnCard, on_card, Step, step, offset_below, clean_turn, copy_keeps, copy_turn, all_none}
 use Rattle.finding.proofs.Positions.{indexed, walk_found, part_next, part_whole, clean_reached}
 use Rattle.copies.specs.inner.Copies.{Parted, Cleared}
 
@@ -28,8 +27,8 @@ pub record Copying (image came : List ℕ) (B N head size pos count at top last 
   pub any : 0 < count
   pub top_is : top ≡ index_at B (size - 1)
   pub last_is : last ≡ index_at B (pos + (count - 1))
-  pub list : Indexed B N top last (length image)
-  pub run : Ranged B N size p left (length image)
+  pub list : Indexed B top last
+  pub run : OnCard B N size p left (length image)
   pub found : clean (gather left (card_with B N image) (block_list head size) (range p left)) ≡ Ok tt
   pub end : p + left ≡ pos + count
   pub fits : to + left ≤ length buffer
@@ -43,17 +42,17 @@ pub record Copying (image came : List ℕ) (B N head size pos count at top last 
   pub whole : sets came at (got_bytes (gather count (card_with B N image) (block_list head size) (range pos count))) ≡ sets buffer to (got_bytes (gather left (card_with B N image) (block_list head size) (range p left)))
 
 -- how the pass begins
-pub begins : {image buffer blocks : List ℕ} {B N head size p n to top first last off : ℕ} → Cleared image B N head size p n to (length buffer) blocks
+pub begins : {image buffer blocks : List ℕ} {B N head size p n to top first last off : ℕ} → CardFacts B N (length image) → Cleared image B N head size p n to (length buffer) blocks
     → top ≡ index_at B (size - 1) → first ≡ index_at B p → last ≡ index_at B (p + (n - 1)) → off ≡ offset_at B p
     → Copying image buffer B N head size p n to top last buffer blocks first first off p n to
-begins {image} {blocks = blocks} {B = B} {N} {head} {size} {p} {n} {top = top} {first} {last} r e f g o =
-    let m = clean_reached image head B N size p n r.some r.run r.found in
+begins {image} {blocks = blocks} {B = B} {N} {head} {size} {p} {n} {top = top} {first} {last} c r e f g o =
+    let m = clean_reached image head B N size p n r.some (on_card c r.run) r.found in
     record {
       any = r.some;
       top_is = e;
       last_is = g;
-      list = indexed r.run r.some e g;
-      run = r.run;
+      list = indexed (on_card c r.run) r.some e g;
+      run = on_card c r.run;
       found = r.found;
       end = refl;
       fits = r.fits;
@@ -105,7 +104,6 @@ module _ {image came : List ℕ} {B N head size pos count at top last : ℕ} {bu
       parted =
           record {
             block = turn.inside;
-            whole = omega (arith, c.run.card.long, c.run.card.whole);
             inside = turn.in_block;
             fits = omega (arith, turn.most_left, c.fits);
           }

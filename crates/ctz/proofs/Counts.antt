@@ -13,7 +13,7 @@ use Rattle.hops.specs.Walk.{hops}
 use Rattle.hops.specs.inner.Ways.{way}
 use Rattle.hops.proofs.Exact.{hops_here, hops_step}
 use Rattle.hops.proofs.Greedy.{pick_best}
-use Rattle.card.specs.inner.Cards.{card_with}
+use Rattle.card.specs.inner.Cards.{CardFacts, card_with}
 use Rattle.ctz.specs.declared.Found.{Found}
 use Rattle.ctz.specs.Lookup.{found_at, walk_to}
 use Rattle.ctz.specs.inner.Bounds.{LookupAsked}
@@ -31,8 +31,8 @@ counts {tgt = tgt} {cur = cur} (onward b g rest) l c e =
     let reach = (pick_best cur tgt c g).reach in
     omega (arith, counts rest (omega arith) (omega arith) e, hops_step cur tgt c g)
 
-pub found_counts : {B N size p len : ℕ} (image : List ℕ) (head : ℕ) → LookupAsked B N size p len → {k off h : ℕ}
+pub found_counts : {B N size p len : ℕ} (image : List ℕ) (head : ℕ) → CardFacts B N len → LookupAsked size p → {k off h : ℕ}
     → walk_to (card_with B N image) (block_list head size) p ≡ found_at k off h → h ≡ hops (way (index_at B (size - 1)) (index_at B p))
-found_counts {B} {N} {size} {p} image head s e =
-    let below = index_below (served {p = size - 1} s.card.sized (omega (arith, s.most))) in
-    omega (arith, counts (found_trail image head s) (index_mono B p (size - 1) (omega (arith, s.below))) (omega arith) e)
+found_counts {B} {N} {size} {p} image head c s e =
+    let below = index_below (served {p = size - 1} c.sized (omega (arith, s.most))) in
+    omega (arith, counts (found_trail image head c s) (index_mono B p (size - 1) (omega (arith, s.below))) (omega arith) e)

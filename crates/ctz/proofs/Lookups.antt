@@ -14,7 +14,7 @@ use Rattle.layout.specs.inner.Served.{geometry, block_list}
 use Rattle.layout.proofs.Places.{offset_inside}
 use Rattle.layout.proofs.Served.{served, index_in}
 use Rattle.card.specs.Card.{good_card, pointer}
-use Rattle.card.specs.inner.Cards.{card_with}
+use Rattle.card.specs.inner.Cards.{CardFacts, card_with}
 use Rattle.ctz.specs.declared.Found.{Found}
 use Rattle.ctz.specs.Lookup.{found_at, walk, walk_to, lookup_of}
 use Rattle.ctz.specs.inner.Forms.{pointers_with, target, stand}
@@ -22,15 +22,7 @@ use Rattle.ctz.specs.inner.Bounds.{LookupAsked}
 use Rattle.ctz.proofs.Walked.{found_parts, Trail, lost, here, onward, trail}
 
 module _ (B N : ℕ) (image : List ℕ) (head size p : ℕ) where
-  pub lookup_card : good_card (geometry B N) (length image) ≡ false → Err Invalid ≡ lookup_of (card_with B N image) (block_list head size) p
-  unfolding lookup_of
-  lookup_card g = rw (lookup_of, g)
-
   module _ (g : good_card (geometry B N) (length image) ≡ true) where
-    pub lookup_large : 2147483647 < size → Err Invalid ≡ lookup_of (card_with B N image) (block_list head size) p
-    unfolding lookup_of
-    lookup_large l = rw (lookup_of, g, lt-ltb _ _ l)
-
     pub lookup_empty : size ≤ 2147483647 → size ≡ 0 → found_at 4294967295 0 0 ≡ lookup_of (card_with B N image) (block_list head size) p
     unfolding lookup_of
     lookup_empty l z = rw (lookup_of, g, le-ltb _ _ l, eq-eqb _ _ z)
@@ -73,7 +65,7 @@ pub record Told (B N p k off : ℕ) : Type 0 where
   pub place : off ≡ offset_at B p
   pub inside : off < B
 
-module _ {B N size p len : ℕ} (image : List ℕ) (head : ℕ) (s : LookupAsked B N size p len) where
+module _ {B N size p len : ℕ} (image : List ℕ) (head : ℕ) (c : CardFacts B N len) (s : LookupAsked size p) where
   -- the way of the walk that a lookup makes
   pub found_trail : Trail (pointer B image) N (offset_at B p) (index_at B p) (index_at B (size - 1)) head 0 (walk_to (card_with B N image) (block_list head size) p)
   unfolding walk_to
@@ -82,7 +74,7 @@ module _ {B N size p len : ℕ} (image : List ℕ) (head : ℕ) (s : LookupAsked
   pub found_tells : {k off h : ℕ} → walk_to (card_with B N image) (block_list head size) p ≡ found_at k off h → Told B N p k off
   found_tells e =
       let t = tells found_trail e in
-      let inside = offset_inside B p (index_in (served s.card.sized (omega (arith, s.most, s.below)))) in
+      let inside = offset_inside B p (index_in (served c.sized (omega (arith, s.most, s.below)))) in
       record { below = t.0; place = t.1; inside = omega (arith, t.1) }
 
   pub found_answers : {e : Refusal} → walk_to (card_with B N image) (block_list head size) p ≡ Err e → e ≡ Damaged

@@ -23,13 +23,13 @@ room_to {B} s i h =
     omega (arith, pointers_fit scale i (omega (arith, index_below s)))
 
 -- so a list of at most the largest size can be walked
-pub walks : {B N len size : ℕ} → CardFacts B N len → size ≤ 2147483647 → Walks B N (index_at B (size - 1)) len
-walks c h = record { card = c; room = room_to (served c.sized (omega arith)) }
+pub walks : {B N len size : ℕ} → CardFacts B N len → size ≤ 2147483647 → Walks B (index_at B (size - 1))
+walks c h = record { room = room_to (served c.sized (omega arith)) }
 
 -- pointer x of index i, in block k
-pub asked : {B N top len i k x : ℕ} → Walks B N top len → 0 < i → i ≤ top → x ≤ ctz i → k < N → PointerAsked B k x len
-asked {i = i} w p l h b =
-    record { stored = omega (arith, w.room i l, pointers_pos i (λ e. omega arith)); inside = block_inside w.card b }
+pub asked : {B N top len i k x : ℕ} → CardFacts B N len → Walks B top → 0 < i → i ≤ top → x ≤ ctz i → k < N → PointerAsked B k x len
+asked {i = i} c w p l h b =
+    record { stored = omega (arith, w.room i l, pointers_pos i (λ e. omega arith)); inside = block_inside c b }
 
 -- the first two pointers, which every block has room for
 pub first_asked : {B N len k : ℕ} → CardFacts B N len → k < N → PointerAsked B k 0 len

@@ -13,7 +13,7 @@ use Rattle.layout.specs.declared.Refusal.{Refusal}
 use Rattle.layout.specs.declared.Refusal.TheVariants.{Damaged}
 use Rattle.hops.specs.Walk.{ctz}
 use Rattle.hops.proofs.Through.{pick_last}
-use Rattle.card.specs.inner.Cards.{PointerAsked}
+use Rattle.card.specs.inner.Cards.{CardFacts, PointerAsked}
 use Rattle.ctz.specs.declared.Found.{Found}
 use Rattle.ctz.specs.inner.Runs.{seek, block_found, Finds, RunFound, RunKnown, RunGives}
 use Rattle.ctz.proofs.Room.{asked}
@@ -49,7 +49,7 @@ module _ (ptr : ℕ → ℕ → ℕ) (N head top i : ℕ) where
 -- ---- one pointer instead of a walk
 
 -- Index first + j where the index d above it, which its lookup passes through last, lies in the run.
-module _ {ptr : ℕ → ℕ → ℕ} {B N head top first count j len : ℕ} {blocks : List ℕ} (s : RunKnown ptr B N head top first count j len blocks)
+module _ {ptr : ℕ → ℕ → ℕ} {B N head top first count j : ℕ} {blocks : List ℕ} (s : RunKnown ptr B N head top first count j blocks)
     (d : ℕ) (some : 0 < first + j) (jump : d ≡ 2 ^ ctz (first + j)) (within : j + d < count) (small : top < 2 ^ 32) where
   abbrev i : ℕ
   i = first + j
@@ -64,10 +64,10 @@ module _ {ptr : ℕ → ℕ → ℕ} {B N head top first count j len : ℕ} {blo
   block = rw (sym place) (s.known (j + d) (omega (arith, jump, pow_pos (ctz i))) within)
 
   -- the block there has the pointers that index first + j has
-  pub near_asked : {x : ℕ} → x ≤ ctz (first + j) → PointerAsked B (get_or blocks (j + d) 0) x len
-  near_asked l =
+  pub near_asked : {x len : ℕ} → CardFacts B N len → x ≤ ctz (first + j) → PointerAsked B (get_or blocks (j + d) 0) x len
+  near_asked c l =
       let stored = pick_stored (i + 2 ^ ctz i) i in
-      asked {i = i + 2 ^ ctz i} s.asked.walks (omega arith) inside (omega (arith, stored, pick_last i some (omega (arith, inside))))
+      asked {i = i + 2 ^ ctz i} c s.asked.walks (omega arith) inside (omega (arith, stored, pick_last i some (omega (arith, inside))))
       (tells (trail ptr N 0 (i + 2 ^ ctz i) (suc top) top head 0) block.1).0
 
   -- and the last of those is what a walk takes

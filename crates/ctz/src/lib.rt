@@ -4,7 +4,7 @@
 pub mod run;
 pub mod visit;
 
-ghost use Rattle.std.specs.Prelude.{◌≡◌, suc, ◌^◌, ◌≤◌, ◌<◌, length};
+ghost use Rattle.std.specs.Prelude.{◌≡◌, suc, ◌^◌, ◌≤◌, ◌<◌};
 ghost use Rattle.layout.specs.inner.Served.{block_list};
 ghost use Rattle.hops.specs.Walk.{jump};
 ghost use Rattle.hops.specs.inner.Ways.{way};
@@ -14,6 +14,7 @@ ghost use Rattle.ctz.specs.Lookup.{walk, walk_to, lookup_of};
 ghost use Rattle.ctz.specs.inner.Forms.{pointers_with, target, stand};
 ghost use Rattle.ctz.specs.inner.Bounds.{Walks, LookupAsked};
 
+use card::Card;
 use layout::{Geometry, Refusal};
 
 // Where a position lies: its block, the offset in it, and how many pointers were followed to it.
@@ -44,23 +45,15 @@ pub fn power(x: u32) -> u32
 
 // The walk from index top, whose block is head, to index tgt, with the offset that it is to answer. -84 at a number not below the block count.
 #[tactic(auto, using(crate::proofs::Walked::walk_damaged))]
-fn walk_to(
-    b: u32,
-    n: u32,
-    image: &[u8],
-    offset: u32,
-    tgt: u32,
-    top: u32,
-    head: u32,
-) -> Result<Found, Refusal>
-    requires { Walks b n top (length image.now) }
-    ensures { result ≡ walk (suc top) (pointers_with n (pointer b image.now)) (target tgt offset) (stand top head 0) }
+fn walk_to(card: Card<'_>, offset: u32, tgt: u32, top: u32, head: u32) -> Result<Found, Refusal>
+    requires { Walks card.block_size top }
+    ensures { result ≡ walk (suc top) (pointers_with card.entry.block_count (pointer card.entry.block_size card.entry.image.now)) (target tgt offset) (stand top head 0) }
 {
     let mut cur = top;
     let mut block = head;
     let mut hops: u32 = 0;
     'hop: loop {
-        if n <= block {
+        if card.block_count <= block {
             return Err(Refusal::Damaged);
         }
         if cur <= tgt {
@@ -71,37 +64,29 @@ fn walk_to(
             });
         }
         let x = skip(cur, tgt);
-        block = card::pointer(image, b, block, x);
+        block = card.pointer(block, x);
         cur -= power(x);
         hops += 1;
     }
 }
 
 // The lookup of a position below the size, on a card: for callers that have tested all that.
-pub fn find_in(
-    b: u32,
-    n: u32,
-    image: &[u8],
-    head: u32,
-    size: u32,
-    pos: u32,
-) -> Result<Found, Refusal>
-    requires { LookupAsked b n size pos (length image.now) }
-    ensures { result ≡ walk_to (card_with b n image.now) (block_list head size) pos }
+pub fn find_in(card: Card<'_>, head: u32, size: u32, pos: u32) -> Result<Found, Refusal>
+    requires { LookupAsked size pos }
+    ensures { result ≡ walk_to (card_with card.entry.block_size card.entry.block_count card.entry.image.now) (block_list head size) pos }
 {
-    let top = layout::index_at(b, size - 1);
-    let tgt = layout::index_at(b, pos);
-    let offset = layout::offset_at(b, pos, tgt);
-    walk_to(b, n, image, offset, tgt, top, head)
+    let top = layout::index_at(card.block_size, size - 1);
+    let tgt = layout::index_at(card.block_size, pos);
+    let offset = layout::offset_at(card.block_size, pos, tgt);
+    walk_to(card, offset, tgt, top, head)
 }
 
 // The lookup of a position: its block, offset and hops; the null block where the list is empty, refused at or past the size.
+#[tactic(auto, using(std::proofs::lemmas::Bool::Decides::nat_tests), unfolding(crate::specs::Lookup::lookup_of))]
 pub fn ctz_find(g: Geometry, image: &[u8], head: u32, size: u32, pos: u32) -> Result<Found, Refusal>
     ensures { result ≡ lookup_of (card_of g image.now) (record { head = head; size = size }) pos }
 {
-    if !card::good_card(g, image.len()) {
-        return Err(Refusal::Invalid);
-    }
+    let card = Card::new(g, image)?;
     if Geometry::FILE_MAX < size {
         return Err(Refusal::Invalid);
     }
@@ -115,5 +100,5 @@ pub fn ctz_find(g: Geometry, image: &[u8], head: u32, size: u32, pos: u32) -> Re
     if size <= pos {
         return Err(Refusal::Invalid);
     }
-    find_in(g.block_size, g.block_count, image, head, size, pos)
+    find_in(card, head, size, pos)
 }

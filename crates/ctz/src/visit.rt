@@ -1,10 +1,10 @@
 // The visit of a list: the numbers of its blocks, last index first, a step at a time.
-ghost use Rattle.std.specs.Prelude.{◌≡◌, length};
+ghost use Rattle.std.specs.Prelude.{◌≡◌};
 ghost use Rattle.card.specs.Card.{card_of, pointer};
-ghost use Rattle.card.specs.inner.Cards.{CardFacts};
 ghost use Rattle.ctz.specs.Visits.{begin_of, step_of, traverse_of};
 ghost use Rattle.ctz.specs.inner.Forms.{pointers_with};
 
+use card::Card;
 use layout::{Geometry, Refusal};
 
 // The index to hand over next and its block number; and the number of the index below it, where that was read already.
@@ -43,12 +43,11 @@ pub fn ctz_visit(g: Geometry, head: u32, size: u32) -> Result<Option<Visit>, Ref
 
 // One step on a card. An odd index reads one pointer; an even one above 0 reads two, and the second is held for the index below.
 #[tactic(auto, using(std::proofs::lemmas::Bool::Decides::nat_tests), unfolding(crate::specs::Visits::step_of))]
-pub fn visit_step(b: u32, n: u32, image: &[u8], v: Visit) -> Result<Step, Refusal>
-    requires { CardFacts b n (length image.now) }
-    ensures { result ≡ step_of (pointers_with n (pointer b image.now)) v }
+pub fn visit_step(card: Card<'_>, v: Visit) -> Result<Step, Refusal>
+    ensures { result ≡ step_of (pointers_with card.entry.block_count (pointer card.entry.block_size card.entry.image.now)) v }
 {
     let k = v.block;
-    if n <= k {
+    if card.block_count <= k {
         return Err(Refusal::Damaged);
     }
     let i = v.index;
@@ -60,11 +59,8 @@ pub fn visit_step(b: u32, n: u32, image: &[u8], v: Visit) -> Result<Step, Refusa
     }
     let (block, after) = match v.after {
         Some(held) => (held, None),
-        None if i % 2 == 1 => (card::pointer(image, b, k, 0), None),
-        None => (
-            card::pointer(image, b, k, 0),
-            Some(card::pointer(image, b, k, 1)),
-        ),
+        None if i % 2 == 1 => (card.pointer(k, 0), None),
+        None => (card.pointer(k, 0), Some(card.pointer(k, 1))),
     };
     Ok(Step {
         block: k,
@@ -81,8 +77,5 @@ pub fn visit_step(b: u32, n: u32, image: &[u8], v: Visit) -> Result<Step, Refusa
 pub fn ctz_traverse(g: Geometry, image: &[u8], v: Visit) -> Result<Step, Refusal>
     ensures { result ≡ traverse_of (card_of g image.now) v }
 {
-    if !card::good_card(g, image.len()) {
-        return Err(Refusal::Invalid);
-    }
-    visit_step(g.block_size, g.block_count, image, v)
+    visit_step(Card::new(g, image)?, v)
 }

@@ -24,7 +24,7 @@ use Rattle.files.specs.Seek.{whence_of, seek_of, Seek}
 use Rattle.files.proofs.Cases as cases
 use Rattle.files.proofs.Tests.{ltb_cases, leb_cases}
 use Rattle.grow.specs.Setting.{State}
-use Rattle.reading.specs.Calls.{asked_of, read_of, stretch_of, stretch_bytes, FilePosition}
+use Rattle.reading.specs.Calls.{entry_of, asked_of, read_of, stretch_of, stretch_bytes, FilePosition}
 use Rattle.reading.specs.inner.Bounds.{file_position}
 use Rattle.reading.proofs.Plain as reads
 use Rattle.demands.specs.Came.{Sounds}
@@ -116,11 +116,11 @@ module _ {g : Shape} {s : State} (sounds : Sounds g s) where
     read_there buffer = go (find_view t number sounds.table) refl
       where
         go : {r : Result ℕ Refusal} → FindView t number r → find_of t number ≡ r → read_of (card_with B N s.image) t (file_position number p) buffer ≡ plain_read (file_position number p) buffer fs
-        go (high k) q = rw (plain_read, meets_high number p fs k) (rw (read_of, asked_of, sounds.card, q))
-        go (missing a u) q = rw (plain_read, meets_none number p fs a (none_here number u)) (rw (read_of, asked_of, sounds.card, q))
+        go (high k) q = rw (plain_read, meets_high number p fs k) (rw (read_of, asked_of, entry_of, sounds.card, q))
+        go (missing a u) q = rw (plain_read, meets_none number p fs a (none_here number u)) (rw (read_of, asked_of, entry_of, sounds.card, q))
         go (at i a b pl) q =
             ltb_cases size_max p (λ b. read_of (card_with B N s.image) t (file_position number p) buffer ≡ plain_read (file_position number p) buffer fs)
-            (λ f. rw (plain_read, meets_far number p fs a (here number i pl) f) (rw (read_of, asked_of, sounds.card, q, lt-ltb size_max p f)))
+            (λ f. rw (plain_read, meets_far number p fs a (here number i pl) f) (rw (read_of, asked_of, entry_of, sounds.card, q, lt-ltb size_max p f)))
             (λ n. rw (plain_read, meets_file_lem number p fs a (here number i pl) n) (reads.read_plain B N s.image t number i p sounds.card q n (sl number i pl) buffer
             ∙ rw (length_here number i pl, bytes_here number i pl)))
 
@@ -155,13 +155,13 @@ module _ {g : Shape} {s : State} (sounds : Sounds g s) where
       where
         go : {r : Result ℕ Refusal} → FindView t number r → find_of t number ≡ r → part × code
         go (high k) q =
-            rw (plain_stretch, meets_high number p fs k) (rw (stretch_of, asked_of, sounds.card, q), rw (stretch_of, asked_of, sounds.card, q))
+            rw (plain_stretch, meets_high number p fs k) (rw (stretch_of, asked_of, entry_of, sounds.card, q), rw (stretch_of, asked_of, entry_of, sounds.card, q))
         go (missing a u) q =
-            rw (plain_stretch, meets_none number p fs a (none_here number u)) (rw (stretch_of, asked_of, sounds.card, q), rw (stretch_of, asked_of, sounds.card, q))
+            rw (plain_stretch, meets_none number p fs a (none_here number u)) (rw (stretch_of, asked_of, entry_of, sounds.card, q), rw (stretch_of, asked_of, entry_of, sounds.card, q))
         go (at i a b pl) q =
             ltb_cases size_max p (λ b. part × code)
             (λ f. rw (plain_stretch, meets_far number p fs a (here number i pl) f)
-            (rw (stretch_of, asked_of, sounds.card, q, lt-ltb size_max p f), rw (stretch_of, asked_of, sounds.card, q, lt-ltb size_max p f)))
+            (rw (stretch_of, asked_of, entry_of, sounds.card, q, lt-ltb size_max p f), rw (stretch_of, asked_of, entry_of, sounds.card, q, lt-ltb size_max p f)))
             (λ n. rw (plain_stretch, meets_file_lem number p fs a (here number i pl) n) (stretch_at i pl q n))
 
   pub read_plain : (r : FilePosition) (buffer : List ℕ)

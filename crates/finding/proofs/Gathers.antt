@@ -14,7 +14,8 @@ use Rattle.std.specs.Prelude.{Result, Ok, Err}
 use Rattle.layout.specs.declared.Refusal.{Refusal}
 use Rattle.layout.specs.declared.Refusal.TheVariants as refusal
 use Rattle.layout.specs.inner.Served.{block_list}
-use Rattle.card.specs.inner.Cards.{card_with}
+use Rattle.layout.specs.Numbers.{size_max}
+use Rattle.card.specs.inner.Cards.{CardFacts, card_with}
 use Rattle.card.proofs.Cards.{block_inside}
 use Rattle.ctz.specs.declared.Found.{Found}
 use Rattle.ctz.specs.Lookup.{found_at, walk_to}
@@ -26,27 +27,36 @@ use Rattle.finding.specs.inner.Bounds.{Ranged}
 use Rattle.finding.specs.inner.Runs.{clean, got_bytes}
 use Rattle.finding.proofs.Parts.{clean_before, bytes_before, length_part}
 
+-- a run of positions of a list that lies on a card
+pub record OnCard (B N size p n len : ℕ) : Type 0 where
+  pub card : CardFacts B N len
+  pub most : size ≤ size_max
+  pub inside : p + n ≤ size
+
+pub on_card : {B N size p n len : ℕ} → CardFacts B N len → Ranged size p n → OnCard B N size p n len
+on_card c r = record { card = c; most = r.most; inside = r.inside }
+
 -- what a block that was found gives: at least one byte, the part lies in the block, the block in the image, and the rest is a run too
 pub record Step (B N size p n len k off m : ℕ) : Type 0 where
   pub some : 1 ≤ m
   pub most_left : m ≤ n
   pub in_block : off + m ≤ B
   pub inside : k * B + B ≤ len
-  pub rest : Ranged B N size (p + m) (n - m) len
+  pub rest : OnCard B N size (p + m) (n - m) len
 
-module _ (image : List ℕ) (head : ℕ) {B N size p n : ℕ} (r : Ranged B N size p n (length image)) (some : 0 < n) where
-  pub sought : LookupAsked B N size p (length image)
-  sought = record { card = r.card; most = r.most; below = omega (arith, r.inside) }
+module _ (image : List ℕ) (head : ℕ) {B N size p n : ℕ} (r : OnCard B N size p n (length image)) (some : 0 < n) where
+  pub sought : LookupAsked size p
+  sought = record { most = r.most; below = omega (arith, r.inside) }
 
   pub offset_below : {k off h : ℕ} → walk_to (card_with B N image) (block_list head size) p ≡ found_at k off h → off < B
-  offset_below e = (found_tells image head sought e).inside
+  offset_below e = (found_tells image head r.card sought e).inside
 
   pub only_damaged : {d : Refusal} → walk_to (card_with B N image) (block_list head size) p ≡ Err d → walk_to (card_with B N image) (block_list head size) p ≡ Err refusal.Damaged
-  only_damaged e = e ∙ ap Err (found_answers image head sought e)
+  only_damaged e = e ∙ ap Err (found_answers image head r.card sought e)
 
   pub step : {k off h : ℕ} (m : ℕ) → walk_to (card_with B N image) (block_list head size) p ≡ found_at k off h → m ≡ min (B - off) n → Step B N size p n (length image) k off m
   step {k} {off} m e q =
-      let t = found_tells image head sought e in
+      let t = found_tells image head r.card sought e in
       let a = min-le_left (B - off) n in
       let b = min-le_right (B - off) n in
       let o : 1 ≤ min (B - off) n = le-min (omega (arith, t.inside)) (omega arith) in
@@ -60,7 +70,7 @@ module _ (image : List ℕ) (head : ℕ) {B N size p n : ℕ} (r : Ranged B N si
 
 module _ (image : List ℕ) (head : ℕ) {B N size : ℕ} where
   -- more fuel than bytes changes nothing
-  gather_fuel : (f g p n : ℕ) → n ≤ f → n ≤ g → Ranged B N size p n (length image) → gather f (card_with B N image) (block_list head size) (range p n) ≡ gather g (card_with B N image) (block_list head size) (range p n)
+  gather_fuel : (f g p n : ℕ) → n ≤ f → n ≤ g → OnCard B N size p n (length image) → gather f (card_with B N image) (block_list head size) (range p n) ≡ gather g (card_with B N image) (block_list head size) (range p n)
   unfolding gather
   gather_fuel zero zero p n hf hg r = refl
   gather_fuel zero (suc g) p n hf hg r = rw (gather, le-ltb 0 n hf)
@@ -68,7 +78,7 @@ module _ (image : List ℕ) (head : ℕ) {B N size : ℕ} where
   gather_fuel (suc f) (suc g) p n hf hg r = go (ltb 0 n) refl (walk_to (card_with B N image) (block_list head size) p) refl (gather_fuel f g)
     where
       go : (t : Bool) → ltb 0 n ≡ t → (w : Result Found Refusal) → walk_to (card_with B N image) (block_list head size) p ≡ w
-          → ((p n : ℕ) → n ≤ f → n ≤ g → Ranged B N size p n (length image) → gather f (card_with B N image) (block_list head size) (range p n) ≡ gather g (card_with B N image) (block_list head size) (range p n))
+          → ((p n : ℕ) → n ≤ f → n ≤ g → OnCard B N size p n (length image) → gather f (card_with B N image) (block_list head size) (range p n) ≡ gather g (card_with B N image) (block_list head size) (range p n))
           → gather (suc f) (card_with B N image) (block_list head size) (range p n) ≡ gather (suc g) (card_with B N image) (block_list head size) (range p n)
       go false e w q ih = rw (gather, e)
       go true e (Ok found) q ih =
@@ -95,13 +105,13 @@ unfolding gather
 all_damaged image B N head size p zero h e = absurd (omega arith)
 all_damaged image B N head size p (suc n) h e = rw (gather, lt-ltb 0 (suc n) h, e)
 
-pub all_lost : (image : List ℕ) (head : ℕ) {B N size p n : ℕ} → Ranged B N size p n (length image) → 0 < n → {d : Refusal}
+pub all_lost : (image : List ℕ) (head : ℕ) {B N size p n : ℕ} → OnCard B N size p n (length image) → 0 < n → {d : Refusal}
     → walk_to (card_with B N image) (block_list head size) p ≡ Err d → clean (all image B N head size p n) ≡ Err d
 all_lost image head {B} {N} {size} {p} {n} r some e =
     ap clean (all_damaged image B N head size p n some (only_damaged image head r some e))
-    ∙ sym (ap Err (found_answers image head (sought image head r some) e))
+    ∙ sym (ap Err (found_answers image head r.card (sought image head r some) e))
 
-all_turn : (image : List ℕ) (head : ℕ) {B N size : ℕ} (p n : ℕ) → Ranged B N size p n (length image) → 0 < n → {k off h : ℕ} (m : ℕ)
+all_turn : (image : List ℕ) (head : ℕ) {B N size : ℕ} (p n : ℕ) → OnCard B N size p n (length image) → 0 < n → {k off h : ℕ} (m : ℕ)
     → walk_to (card_with B N image) (block_list head size) p ≡ found_at k off h → m ≡ min (B - off) n
     → all image B N head size p n ≡ before (take m (drop (k * B + off) image)) (all image B N head size (p + m) (n - m))
 unfolding gather
@@ -114,7 +124,7 @@ all_turn image head {B} {N} {size} p (suc n) r some {k} {off} m e q =
 
 -- ---- the passes, turn by turn
 
-module _ (image : List ℕ) (head : ℕ) {B N size p n : ℕ} (r : Ranged B N size p n (length image)) (some : 0 < n)
+module _ (image : List ℕ) (head : ℕ) {B N size p n : ℕ} (r : OnCard B N size p n (length image)) (some : 0 < n)
     {k off h : ℕ} (m : ℕ) (e : walk_to (card_with B N image) (block_list head size) p ≡ found_at k off h) (q : m ≡ min (B - off) n) where
   abbrev now : Gathered
   now = all image B N head size p n
@@ -168,12 +178,12 @@ gave_before part m n l e w (copied bs q) = copied (part ++ bs) (length-append pa
 gave_before part m n l e w damaged = damaged
 
 module _ (image : List ℕ) (head : ℕ) {B N size : ℕ} where
-  gave_many : (f p n : ℕ) → n ≤ f → Ranged B N size p n (length image) → Gave n (all image B N head size p n)
+  gave_many : (f p n : ℕ) → n ≤ f → OnCard B N size p n (length image) → Gave n (all image B N head size p n)
   gave_many zero p n hf r = subst (Gave n) (sym (all_none image B N head size p n hf)) (copied [] (omega arith))
   gave_many (suc f) p n hf r = go (ltb 0 n) refl (walk_to (card_with B N image) (block_list head size) p) refl (gave_many f)
     where
       go : (t : Bool) → ltb 0 n ≡ t → (w : Result Found Refusal) → walk_to (card_with B N image) (block_list head size) p ≡ w
-          → ((p n : ℕ) → n ≤ f → Ranged B N size p n (length image) → Gave n (all image B N head size p n)) → Gave n (all image B N head size p n)
+          → ((p n : ℕ) → n ≤ f → OnCard B N size p n (length image) → Gave n (all image B N head size p n)) → Gave n (all image B N head size p n)
       go false t w q ih =
           let z = ltb-false 0 n t in subst (Gave n) (sym (all_none image B N head size p n z)) (copied [] (omega arith))
       go true t (Ok found) q ih =
@@ -189,11 +199,11 @@ module _ (image : List ℕ) (head : ℕ) {B N size : ℕ} where
           let some = ltb-true 0 n t in
           subst (Gave n) (sym (all_damaged image B N head size p n some (only_damaged image head r some q))) damaged
 
-  pub gave : (p n : ℕ) → Ranged B N size p n (length image) → Gave n (all image B N head size p n)
+  pub gave : (p n : ℕ) → OnCard B N size p n (length image) → Gave n (all image B N head size p n)
   gave p n r = gave_many n p n (omega arith) r
 
   -- so a run that is not clean meets -84
-  pub not_clean : (p n : ℕ) → Ranged B N size p n (length image) → (clean (all image B N head size p n) ≡ Ok tt → ⊥) → clean (all image B N head size p n) ≡ Err refusal.Damaged
+  pub not_clean : (p n : ℕ) → OnCard B N size p n (length image) → (clean (all image B N head size p n) ≡ Ok tt → ⊥) → clean (all image B N head size p n) ≡ Err refusal.Damaged
   not_clean p n r w = go (gave p n r) w
     where
       go : {g : Gathered} → Gave n g → (clean g ≡ Ok tt → ⊥) → clean g ≡ Err refusal.Damaged

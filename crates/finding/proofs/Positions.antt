@@ -26,14 +26,13 @@ use Rattle.ctz.proofs.Through.{walk_offset}
 use Rattle.plain.specs.Reading.{gather}
 use Rattle.plain.specs.inner.Forms.{range}
 use Rattle.plain.proofs.Indexes.{run_index, run_offset}
-use Rattle.finding.specs.inner.Bounds.{Ranged}
 use Rattle.finding.specs.inner.Runs.{Reached, Tested, Indexed, clean}
 use Rattle.finding.proofs.Parts.{never_both}
-use Rattle.finding.proofs.Gathers.{sought, only_damaged, step, clean_turn, all_none, all_damaged, not_clean}
+use Rattle.finding.proofs.Gathers.{OnCard, sought, only_damaged, step, clean_turn, all_none, all_damaged, not_clean}
 
 -- the list of a run of positions can be walked
-pub indexed : {B N size p n len : ℕ} → Ranged B N size p n len → 0 < n → {top last : ℕ} → top ≡ index_at B (size - 1) → last ≡ index_at B (p + (n - 1))
-    → Indexed B N top last len
+pub indexed : {B N size p n len : ℕ} → OnCard B N size p n len → 0 < n → {top last : ℕ} → top ≡ index_at B (size - 1) → last ≡ index_at B (p + (n - 1))
+    → Indexed B top last
 indexed {B} {size = size} {p = p} {n = n} r some {top} {last} e f =
     rw (e, f)
     record {
@@ -43,10 +42,10 @@ indexed {B} {size = size} {p = p} {n = n} r some {top} {last} e f =
     }
 
 -- its first index is not past its last
-pub ordered : {B N size p n len : ℕ} → Ranged B N size p n len → 0 < n → {first last : ℕ} → first ≡ index_at B p → last ≡ index_at B (p + (n - 1)) → first ≤ last
+pub ordered : {B N size p n len : ℕ} → OnCard B N size p n len → 0 < n → {first last : ℕ} → first ≡ index_at B p → last ≡ index_at B (p + (n - 1)) → first ≤ last
 ordered {B} {p = p} {n = n} r some e f = omega (arith, e, f, index_mono B p (p + (n - 1)) (omega arith))
 
-module _ (image : List ℕ) (head : ℕ) {B N size p n : ℕ} (r : Ranged B N size p n (length image)) (some : 0 < n) where
+module _ (image : List ℕ) (head : ℕ) {B N size p n : ℕ} (r : OnCard B N size p n (length image)) (some : 0 < n) where
   -- the lookup of a position is that of its index
   pub walk_found : {k : ℕ} → Finds (pointer B image) N head (index_at B (size - 1)) (index_at B p) k
       → (h : ℕ) × (walk_to (card_with B N image) (block_list head size) p ≡ found_at k (offset_at B p) h)
@@ -100,11 +99,11 @@ module _ (image : List ℕ) (head B N size : ℕ) where
   abbrev Clean : ℕ → ℕ → Type 0
   Clean p n = clean (gather n (card_with B N image) (block_list head size) (range p n)) ≡ Ok tt
 
-  clean_many : (f p n : ℕ) → n ≤ f → Ranged B N size p n (length image) → (0 < n → Run p n) → Clean p n
+  clean_many : (f p n : ℕ) → n ≤ f → OnCard B N size p n (length image) → (0 < n → Run p n) → Clean p n
   clean_many zero p n hf r w = ap clean (all_none image B N head size p n hf)
   clean_many (suc f) p n hf r w = go (ltb 0 n) refl (clean_many f)
     where
-      go : (t : Bool) → ltb 0 n ≡ t → ((p n : ℕ) → n ≤ f → Ranged B N size p n (length image) → (0 < n → Run p n) → Clean p n) → Clean p n
+      go : (t : Bool) → ltb 0 n ≡ t → ((p n : ℕ) → n ≤ f → OnCard B N size p n (length image) → (0 < n → Run p n) → Clean p n) → Clean p n
       go false t ih = ap clean (all_none image B N head size p n (ltb-false 0 n t))
       go true t ih =
           let some = ltb-true 0 n t in
@@ -119,21 +118,21 @@ module _ (image : List ℕ) (head B N size : ℕ) where
           let e : p + m + (n - m - 1) ≡ p + (n - 1) = omega (arith, s.most_left) in
           w some x (omega (arith, later)) (omega (arith, ap (index_at B) e)))
 
-  pub reached_clean : (p n : ℕ) → Ranged B N size p n (length image) → Run p n → Clean p n
+  pub reached_clean : (p n : ℕ) → OnCard B N size p n (length image) → Run p n → Clean p n
   reached_clean p n r w = clean_many n p n (omega arith) r (λ some. w)
 
-  reached_many : (f p n : ℕ) → n ≤ f → 0 < n → Ranged B N size p n (length image) → Clean p n → Run p n
+  reached_many : (f p n : ℕ) → n ≤ f → 0 < n → OnCard B N size p n (length image) → Clean p n → Run p n
   reached_many zero p n hf some r c x l u = absurd (omega arith)
   reached_many (suc f) p n hf some r c x l u = go (walk_to (card_with B N image) (block_list head size) p) refl (reached_many f)
     where
       go : (w : Result Found Refusal) → walk_to (card_with B N image) (block_list head size) p ≡ w
-          → ((p n : ℕ) → n ≤ f → 0 < n → Ranged B N size p n (length image) → Clean p n → Run p n)
+          → ((p n : ℕ) → n ≤ f → 0 < n → OnCard B N size p n (length image) → Clean p n → Run p n)
           → (k : ℕ) × Finds (pointer B image) N head (index_at B (size - 1)) x k
       go (Err d) e ih = absurd (never_both c (ap clean (all_damaged image B N head size p n some (only_damaged image head r some e))))
       go (Ok found) e ih = ⊎_elim first further (eq-or-lt_of_le l)
         where
           o : found.offset ≡ offset_at B p
-          o = (found_tells image head (sought image head r some) e).place
+          o = (found_tells image head r.card (sought image head r some) e).place
 
           q : min (B - found.offset) n ≡ min (B - offset_at B p) n
           q = ap (λ (y : ℕ). min (B - y) n) o
@@ -154,11 +153,11 @@ module _ (image : List ℕ) (head B N size : ℕ) where
           further : index_at B p < x → (k : ℕ) × Finds (pointer B image) N head (index_at B (size - 1)) x k
           further y = behind (ltb (min (B - found.offset) n) n) refl y
 
-  pub clean_reached : (p n : ℕ) → 0 < n → Ranged B N size p n (length image) → Clean p n → Run p n
+  pub clean_reached : (p n : ℕ) → 0 < n → OnCard B N size p n (length image) → Clean p n → Run p n
   clean_reached p n some r c = reached_many n p n (omega arith) some r c
 
   -- so the test of the indexes is that of the run
-  pub tested_clean : (p n : ℕ) {top first last : ℕ} (w : Result (Unit {0}) Refusal) → 0 < n → Ranged B N size p n (length image)
+  pub tested_clean : (p n : ℕ) {top first last : ℕ} (w : Result (Unit {0}) Refusal) → 0 < n → OnCard B N size p n (length image)
       → top ≡ index_at B (size - 1) → first ≡ index_at B p → last ≡ index_at B (p + (n - 1)) → Tested (pointer B image) N head top first last w
       → w ≡ clean (gather n (card_with B N image) (block_list head size) (range p n))
   tested_clean p n {top} {first} {last} (Ok u) some r e f g t =

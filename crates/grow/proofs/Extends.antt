@@ -6,7 +6,7 @@ use Prim.Native.Nat.{ℕ, suc, ◌-◌, ◌<◌}
 use native.Mathlib.Omega.{arith}
 use lib.ListN.{length}
 use Rattle.layout.specs.declared.Refusal.TheVariants as refusal
-use Rattle.card.specs.inner.Cards.{card_with}
+use Rattle.card.specs.inner.Cards.{CardFacts, card_with}
 use Rattle.files.specs.declared.Table.{Table}
 use Rattle.layout.specs.declared.Refusal.{Refusal}
 use Rattle.std.specs.Prelude.{Ok, Err, Option, Some}
@@ -15,7 +15,7 @@ use Rattle.window.specs.declared.Lookahead.{Lookahead}
 use Rattle.window.specs.Allocate.{take_of, alloc_of, Allocated}
 use Rattle.window.specs.inner.Facts.{ValidWindow, scope}
 use Rattle.alloc.specs.Visits.{seen_in}
-use Rattle.alloc.specs.inner.Facts.{Ready}
+use Rattle.alloc.specs.inner.Facts.{Looking}
 use Rattle.alloc.proofs.Turning.{allocating, answers_block}
 use Rattle.grow.specs.declared.Failed.TheVariants as failed
 use Rattle.grow.specs.Extend.{Growth, GrowOut, grow_out}
@@ -60,15 +60,12 @@ module _ {B N l : ℕ} {health : List ℕ} {t : Table} {w₀ : Lookahead} {s : �
   held p e = answers_block N l (seen_in (card_with B N img₀) t) w₀ (allocating N l (seen_in (card_with B N img₀) t) w₀ x.ready.window) p e
 
   module _ {head : ℕ} {w : Lookahead} {img : List ℕ} (r : Rest B N l health t w₀ head s img₀ w img) where
-    -- an allocation may be asked
-    pub rest_ready : Ready B N l (length img) t w
-    rest_ready =
-        record {
-          card = rw r.long x.ready.card;
-          sizes = x.ready.sizes;
-          window = r.valid;
-          table = x.ready.table;
-        }
+    -- an allocation may be asked, on a card
+    pub rest_card : CardFacts B N (length img)
+    rest_card = rw r.long x.ready.card
+
+    pub rest_looking : Looking N l t w
+    rest_looking = record { sizes = x.ready.sizes; window = r.valid; table = x.ready.table }
 
     tries_some : r.tries ≡ suc (r.tries - 1)
     tries_some = omega (arith, r.left)
@@ -97,7 +94,7 @@ module _ {B N l : ℕ} {health : List ℕ} {t : Table} {w₀ : Lookahead} {s : �
         falls = outcome.falls k e
 
         pub block_linking : Linking B N k img health
-        block_linking = record { card = rest_ready.card; known = x.known; block = outcome.below k e }
+        block_linking = record { card = rest_card; known = x.known; block = outcome.below k e }
 
         module _ {q : Tried} {img' : List ℕ} (g : LinkGives (try_of health B N k head s img) q img') where
           pub ends_done : (f : Growth) → q ≡ tried_of f

@@ -4,6 +4,7 @@ ghost use Rattle.grow.specs.inner.Gives.{GrewGives};
 
 use crate::block::try_block;
 use crate::{Failed, Grown};
+use card::Card;
 use files::Table;
 use layout::Refusal;
 use window::{Lookahead, Windowed};
@@ -27,7 +28,12 @@ pub(crate) fn extend_scan(
 {
     let mut window = w;
     loop {
-        let took = alloc::alloc_in(b, n, l, &image[..], t, window);
+        let card = Card {
+            block_size: b,
+            block_count: n,
+            image: &image[..],
+        };
+        let took = alloc::alloc_in(card, l, t, window);
         window = took.window;
         match took.answer {
             Ok(k) => match try_block(image, health, b, n, k, head, size) {

@@ -79,7 +79,7 @@ look_below {B} {N} e img p k g l f = go (walk_to (card_with B N img) (block_list
     go : (x : Result Found Refusal) → walk_to (card_with B N img) (block_list e.head e.size) p ≡ x → look_of x ≡ Look.Found k → k < N
     go (Ok found) w f =
         let i : found.block ≡ k = cc in
-        omega (arith, (found_tells img e.head (record { card = g.card; most = g.most; below = l }) w).below)
+        omega (arith, (found_tells img e.head g.card (record { most = g.most; below = l }) w).below)
     go (Err refusal) w f = let z : ◌≡◌ {A = ℕ} 0 1 = cc in absurd (omega arith)
 
 -- a lookup that is refused is lost

@@ -9,6 +9,7 @@ ghost use Rattle.ctz.specs.inner.Bounds.{ListFacts};
 ghost use Rattle.old_list.specs.Write.{looked};
 ghost use Rattle.old_list.specs.inner.Lookups.{looked_of, found_all, kept_of, tail_wanted, Behind, look_in};
 
+use card::Card;
 use files::Entry;
 use layout::{Geometry, Refusal};
 
@@ -32,7 +33,12 @@ pub fn look(b: u32, n: u32, image: &[u8], e: Entry, p: u32) -> Result<u32, Refus
         }
         return Err(Refusal::Damaged);
     }
-    let found = ctz::find_in(b, n, image, e.head, e.size, p)?;
+    let card = Card {
+        block_size: b,
+        block_count: n,
+        image,
+    };
+    let found = ctz::find_in(card, e.head, e.size, p)?;
     Ok(found.block)
 }
 
@@ -45,7 +51,12 @@ fn look_before(b: u32, n: u32, image: &[u8], e: Entry, q: u32, first: u32) -> Re
         if n <= e.head {
             return Err(Refusal::Damaged);
         }
-        let block = card::pointer(image, b, e.head, 0);
+        let card = Card {
+            block_size: b,
+            block_count: n,
+            image,
+        };
+        let block = card.pointer(e.head, 0);
         if n <= block {
             return Err(Refusal::Damaged);
         }

@@ -18,7 +18,7 @@ use Rattle.files.specs.declared.Table.{Table}
 use Rattle.files.specs.Table.{file, find_of}
 use Rattle.files.proofs.Laws.{count_ok, table_valid}
 use Rattle.files.proofs.Cases.{found_at, found_cases}
-use Rattle.reading.specs.Calls.{asked_of}
+use Rattle.reading.specs.Calls.{entry_of, asked_of}
 use Rattle.reading.specs.inner.Bounds.{file_position}
 
 -- a file that is found stands in one of the slots, and its size is none too large
@@ -27,6 +27,16 @@ found_slot t number i e = let h = found_at t number i e in omega (arith, h.below
 
 pub found_size : (t : Table) (number i : ℕ) → find_of t number ≡ Ok i → (file t i).size ≤ size_max
 found_size t number i e = let h = found_at t number i e in (table_valid t h.ok).size_le i h.below
+
+-- so the file that a call is about is none too large
+pub entry_size : (t : Table) (number p : ℕ) (e : Entry) → entry_of t (file_position number p) ≡ Ok e → e.size ≤ size_max
+entry_size t number p e q = go (find_of t number) refl (ltb size_max p) q
+  where
+    go : (r : Result ℕ Refusal) → find_of t number ≡ r → (b : Bool)
+        → ◌≡◌ {A = Result Entry Refusal} (elim r [ Ok i ↦ elim b [ true ↦ Err Invalid | false ↦ Ok (file t i) ] | Err x ↦ Err x ]) (Ok e) → e.size ≤ size_max
+    go (Ok i) f false q = let same : file t i ≡ e = cc in subst (λ (x : Entry). x.size ≤ size_max) same (found_size t number i f)
+    go (Ok i) f true q = let z : ◌≡◌ {A = ℕ} 0 1 = cc in absurd (omega arith)
+    go (Err x) f b q = let z : ◌≡◌ {A = ℕ} 0 1 = cc in absurd (omega arith)
 
 module _ (B N len : ℕ) (t : Table) (number p : ℕ) where
   pub ask_card : good_card (geometry B N) len ≡ false → Err Invalid ≡ asked_of (geometry B N) len t (file_position number p)
@@ -37,15 +47,15 @@ module _ (B N len : ℕ) (t : Table) (number p : ℕ) where
     -- -2 or -22, as the table is asked
     pub ask_none : (r : Refusal) → find_of t number ≡ Err r → Err r ≡ asked_of (geometry B N) len t (file_position number p)
     unfolding asked_of
-    ask_none r e = rw (asked_of, g, e) refl
+    ask_none r e = rw (asked_of, entry_of, g, e) refl
 
     pub ask_far : (i : ℕ) → find_of t number ≡ Ok i → size_max < p → Err Invalid ≡ asked_of (geometry B N) len t (file_position number p)
     unfolding asked_of
-    ask_far i e h = rw (asked_of, g, e, lt-ltb size_max p h) refl
+    ask_far i e h = rw (asked_of, entry_of, g, e, lt-ltb size_max p h) refl
 
     pub ask_file : (i : ℕ) → find_of t number ≡ Ok i → p ≤ size_max → Ok (file t i) ≡ asked_of (geometry B N) len t (file_position number p)
     unfolding asked_of
-    ask_file i e h = rw (asked_of, g, e, le-ltb size_max p h) refl
+    ask_file i e h = rw (asked_of, entry_of, g, e, le-ltb size_max p h) refl
 
   -- what is known of a file that is handed on
   pub record Known (e : Entry) : Type 0 where

@@ -12,6 +12,7 @@ use lib.Seq.{sets}
 use Rattle.std.specs.Prelude.{Result, Ok, Err}
 use Rattle.layout.specs.declared.Refusal.{Refusal}
 use Rattle.layout.specs.declared.Refusal.TheVariants.{Damaged}
+use Rattle.layout.specs.Numbers.{size_max}
 use Rattle.layout.specs.inner.Served.{block_list}
 use Rattle.card.specs.inner.Cards.{card_with}
 use Rattle.ctz.specs.declared.Found.{Found}
@@ -20,26 +21,25 @@ use Rattle.ctz.specs.inner.Bounds.{ListFacts}
 use Rattle.plain.specs.Reading.{part_of, stretch_in, gather, read_in, Gathered}
 use Rattle.plain.specs.inner.Forms.{range}
 use Rattle.plain.proofs.Reading.{stretch_past}
-use Rattle.finding.specs.inner.Bounds.{Ranged}
 use Rattle.finding.specs.inner.Runs.{clean, got_bytes}
 use Rattle.finding.proofs.Parts.{never_both}
-use Rattle.finding.proofs.Gathers.{all_none, Gave, copied, damaged, gave, offset_below, only_damaged, step}
+use Rattle.finding.proofs.Gathers.{OnCard, all_none, Gave, copied, damaged, gave, offset_below, only_damaged, step}
 use Rattle.copies.specs.inner.Copies.{Roomy, Copied, copied_of}
 use Rattle.reading.specs.Calls.{given, placed_of, placed_place, placed_length}
 
 -- a position below the size has a run of bytes to the end behind it
-pub ranged : {B N size len : ℕ} (p n : ℕ) → ListFacts B N size len → p + n ≤ size → Ranged B N size p n len
+pub ranged : {B N size len : ℕ} (p n : ℕ) → ListFacts B N size len → p + n ≤ size → OnCard B N size p n len
 ranged p n l h = record { card = l.card; most = l.most; inside = h }
 
 -- ---- read
 
 -- as many bytes as there are and the buffer has room for
-pub roomy : {B N size p n len room : ℕ} → ListFacts B N size len → n ≡ min room (size - p) → (n ≡ 0 → ⊥) → Roomy B N size p n len room
+pub roomy : {size p n room : ℕ} → size ≤ size_max → n ≡ min room (size - p) → (n ≡ 0 → ⊥) → Roomy size p n room
 roomy {size = size} {p} {n} {room = room} l q z =
     let left = min-le_left room (size - p) in
     let right = min-le_right room (size - p) in
     let some : 0 < n = omega arith in
-    record { run = ranged p n l (omega arith); some = some; fits = omega arith }
+    record { run = record { most = l; inside = omega arith }; some = some; fits = omega arith }
 
 gives_copied : (n : ℕ) {g : Gathered} (buffer after : List ℕ) → Gave n g → clean g ≡ Ok tt → after ≡ sets buffer 0 (got_bytes g)
     → record { answer = Ok n; buffer = after } ≡ given buffer g
@@ -57,7 +57,7 @@ module _ (image : List ℕ) (B N head size p : ℕ) (buffer : List ℕ) where
   unfolding read_in
   read_none n q z = sym (ap (given buffer) (all_none image B N head size p (min (length buffer) (size - p)) (omega arith)))
 
-  module _ (n : ℕ) (q : n ≡ min (length buffer) (size - p)) (r : Ranged B N size p n (length image)) where
+  module _ (n : ℕ) (q : n ≡ min (length buffer) (size - p)) (r : OnCard B N size p n (length image)) where
     read_is : read_in (card_with B N image) (block_list head size) (range p (length buffer)) ≡ gather n (card_with B N image) (block_list head size) (range p n)
     unfolding read_in
     read_is = rw (read_in, sym q) refl

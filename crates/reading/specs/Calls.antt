@@ -3,7 +3,7 @@ use Rattle.std.specs.Prelude.{true, false, Result, Ok, Err, List, ℕ, ltb, leng
 use Rattle.std.proofs.lemmas.List.Edits.{sets}
 use Rattle.layout.specs.declared.Geometry.{Geometry}
 use Rattle.layout.specs.declared.Refusal.{Refusal}
-use Rattle.layout.specs.declared.Refusal.TheVariants.{Missing, Invalid, Damaged}
+use Rattle.layout.specs.declared.Refusal.TheVariants.{Invalid, Damaged}
 use Rattle.layout.specs.Numbers.{size_max}
 use Rattle.layout.specs.Layout.{Position}
 use Rattle.card.specs.Card.{Card, good_card}
@@ -19,16 +19,17 @@ pub record FilePosition : Type 0 where
   pub number : ℕ
   pub position : Position
 
--- Geometry and slice (whose length is len), table, file number, no such file, position: the file, or the refusal.
-unfoldable pub asked_of : Geometry → ℕ → Table → FilePosition → Result Entry Refusal
-asked_of g len t at =
-    elim (good_card g len) [
-      | false ↦ Err Invalid
-      | true ↦ elim (find_of t at.number) [
-        | Ok i ↦ elim (ltb size_max at.position) [ true ↦ Err Invalid | false ↦ Ok (file t i) ]
-        | Err r ↦ Err r
-      ]
+-- Table, file number, no such file, position: the file, or the refusal.
+abbrev pub entry_of : Table → FilePosition → Result Entry Refusal
+entry_of t at =
+    elim (find_of t at.number) [
+      | Ok i ↦ elim (ltb size_max at.position) [ true ↦ Err Invalid | false ↦ Ok (file t i) ]
+      | Err r ↦ Err r
     ]
+
+-- Geometry and slice (whose length is len) come before them.
+unfoldable pub asked_of : Geometry → ℕ → Table → FilePosition → Result Entry Refusal
+asked_of g len t at = elim (good_card g len) [ false ↦ Err Invalid | true ↦ entry_of t at ]
 
 abbrev pub asked_in : Card → Table → FilePosition → Result Entry Refusal
 asked_in c t at = asked_of (record { block_size = c.B; block_count = c.N }) (length c.image) t at

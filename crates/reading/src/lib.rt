@@ -5,8 +5,9 @@ mod list;
 
 ghost use Rattle.std.specs.Prelude.{◌≡◌};
 ghost use Rattle.card.specs.Card.{card_of};
-ghost use Rattle.reading.specs.Calls.{asked_of, read_of, stretch_of, stretch_bytes};
+ghost use Rattle.reading.specs.Calls.{entry_of, read_of, stretch_of, stretch_bytes};
 
+use card::Card;
 use files::{Entry, Table};
 use layout::{Geometry, Refusal};
 
@@ -17,14 +18,11 @@ pub struct Part {
     pub length: u32,
 }
 
-// The file that a call is about, behind the tests before the card is read, in their order: geometry and slice, table, file number, no such file, position.
-#[tactic(auto, using(crate::proofs::Asks::found_slot), unfolding(crate::specs::Calls::asked_of))]
-fn ask(g: Geometry, len: usize, t: Table, number: u32, pos: u32) -> Result<Entry, Refusal>
-    ensures { result ≡ asked_of g len t (record { number = number; position = pos }) }
+// The file that a call is about, behind the tests that follow those of geometry and slice, in their order: table, file number, no such file, position.
+#[tactic(auto, using(crate::proofs::Asks::found_slot))]
+fn ask(t: Table, number: u32, pos: u32) -> Result<Entry, Refusal>
+    ensures { result ≡ entry_of t (record { number = number; position = pos }) }
 {
-    if !card::good_card(g, len) {
-        return Err(Refusal::Invalid);
-    }
     let i = files::find(t, number)?;
     if Geometry::FILE_MAX < pos {
         return Err(Refusal::Invalid);
@@ -33,7 +31,7 @@ fn ask(g: Geometry, len: usize, t: Table, number: u32, pos: u32) -> Result<Entry
 }
 
 // Reads min(room, size - position) bytes into the front of the buffer, and answers how many; on a refusal the buffer is as it came.
-#[tactic(auto, unfolding(crate::specs::Calls::read_of))]
+#[tactic(auto, unfolding(crate::specs::Calls::read_of, crate::specs::Calls::asked_of))]
 pub fn read(
     g: Geometry,
     image: &[u8],
@@ -45,20 +43,13 @@ pub fn read(
     ensures { record { answer = result; buffer = buffer.new }
         ≡ read_of (card_of g image.now) t (record { number = number; position = pos }) buffer.old }
 {
-    let file = ask(g, image.len(), t, number, pos)?;
-    list::read_in(
-        g.block_size,
-        g.block_count,
-        image,
-        file.head,
-        file.size,
-        pos,
-        buffer,
-    )
+    let card = Card::new(g, image)?;
+    let file = ask(t, number, pos)?;
+    list::read_in(card, file.head, file.size, pos, buffer)
 }
 
 // The place and length of a stretch: from a position to the end of its block or file; the empty part at place 0 at or past the end.
-#[tactic(auto, unfolding(crate::specs::Calls::stretch_of))]
+#[tactic(auto, unfolding(crate::specs::Calls::stretch_of, crate::specs::Calls::asked_of))]
 pub fn stretch_place(
     g: Geometry,
     image: &[u8],
@@ -68,15 +59,9 @@ pub fn stretch_place(
 ) -> Result<Part, Refusal>
     ensures { result ≡ stretch_of (card_of g image.now) t (record { number = number; position = pos }) }
 {
-    let file = ask(g, image.len(), t, number, pos)?;
-    list::place_in(
-        g.block_size,
-        g.block_count,
-        image,
-        file.head,
-        file.size,
-        pos,
-    )
+    let card = Card::new(g, image)?;
+    let file = ask(t, number, pos)?;
+    list::place_in(card, file.head, file.size, pos)
 }
 
 // The stretch itself: the part of the caller's own image at that place, of that length; a refusal gives the empty part at place 0.

@@ -6,6 +6,7 @@ ghost use Rattle.store.specs.inner.Calls.{Shrinking, finish_of};
 ghost use Rattle.store.specs.inner.Store.{stays, shrinks};
 
 use super::Stored;
+use card::Card;
 use files::Table;
 use layout::{BlockList, Geometry, Refusal};
 use window::{Lookahead, Windowed};
@@ -50,7 +51,12 @@ pub fn shrink(b: u32, n: u32, image: &[u8], w: Lookahead, t: Table, i: u32, size
         };
     }
     let e = t.files[i as usize];
-    match ctz::find_in(b, n, image, e.head, e.size, size - 1) {
+    let card = Card {
+        block_size: b,
+        block_count: n,
+        image,
+    };
+    match ctz::find_in(card, e.head, e.size, size - 1) {
         Ok(found) => Stored {
             answer: Ok(()),
             window: w,

@@ -20,7 +20,6 @@ pub alloc_scan-scan-requires : goal.alloc_scan-scan-requires
 alloc_scan-scan-requires c =
     let p = c.requires in
     record {
-      card = p.card;
       sizes = p.sizes;
       window = rw c.take-taken.ensures (take_valid c.loop-block.invariant.valid);
       table = p.table;

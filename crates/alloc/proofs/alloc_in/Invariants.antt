@@ -7,7 +7,7 @@ use Rattle.alloc.proofs.Turning.{Allocating}
 use Rattle.alloc.proofs.alloc_in.Given as goal
 
 abbrev pub invariant-loop-block : goal.invariant-loop-block
-invariant-loop-block l = Allocating l.n l.l (seen_in (card_with l.b l.n l.image) l.t) l.initial.v l.v
+invariant-loop-block l = Allocating l.card.block_count l.l (seen_in (card_with l.card.block_size l.card.block_count l.card.image.now) l.t) l.initial.v l.v
 
 abbrev pub decreases-loop-block : goal.decreases-loop-block
 decreases-loop-block l = left l.v

@@ -26,7 +26,7 @@ pub mark_file-requires : goal.mark_file-requires
 mark_file-requires c =
     let p = c.requires in
     let inv = c.loop-file.invariant in
-    record { card = p.card; start_lt = inv.start_lt; size_le = inv.size_le; bytes_le = held_size _ p.table _ c.loop-file-test.true }
+    record { start_lt = inv.start_lt; size_le = inv.size_le; bytes_le = held_size _ p.table _ c.loop-file-test.true }
 
 pub returns-in-Err : goal.returns-in-Err
 returns-in-Err c =

@@ -12,16 +12,13 @@ pub returns-then-bytes-eq0 : goal.returns-then-bytes-eq0
 returns-then-bytes-eq0 c = no_block _ _ _ _ _ _ _ _ c.if-bytes-eq0.true
 
 pub index_at-requires : goal.index_at-requires
-index_at-requires c = served c.requires.card.sized (search rules)
+index_at-requires c = served c.args.card.facts.sized (search rules)
 
 pub loop-step-init : goal.loop-step-init
 loop-step-init c = goes _ _ _ _ _ _ _ _ _ c.if-bytes-eq0.false c.index_at.ensures
 
-pub visit_step-requires : goal.visit_step-requires
-visit_step-requires c = c.requires.card
-
 pub mark-requires : goal.mark-requires
-mark-requires c = mark_asked c.requires (step_below _ _ _ (sym c.visit_step.ensures ∙ c.in_ok-step.was))
+mark-requires c = mark_asked c.args.card.facts c.requires (step_below _ _ _ (sym c.visit_step.ensures ∙ c.in_ok-step.was))
 
 pub loop-step-smaller : goal.loop-step-smaller
 loop-step-smaller c =

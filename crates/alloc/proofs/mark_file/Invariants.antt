@@ -8,7 +8,7 @@ use Rattle.alloc.proofs.Files.{Goes}
 use Rattle.alloc.proofs.mark_file.Given as goal
 
 abbrev pub invariant-loop-step : goal.invariant-loop-step
-invariant-loop-step l = Goes l.start l.size l.n l.initial.map (visit_of (card_with l.b l.n l.image) (block_list l.initial.v.block l.bytes)) l.map (visit_from (pointer l.b l.image) l.n l.v)
+invariant-loop-step l = Goes l.start l.size l.card.block_count l.initial.map (visit_of (card_with l.card.block_size l.card.block_count l.card.image.now) (block_list l.initial.v.block l.bytes)) l.map (visit_from (pointer l.card.block_size l.card.image.now) l.card.block_count l.v)
 
 abbrev pub decreases-loop-step : goal.decreases-loop-step
 decreases-loop-step l = l.v.index

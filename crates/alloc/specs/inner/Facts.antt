@@ -10,16 +10,21 @@ use Rattle.window.specs.declared.Lookahead.{Lookahead}
 use Rattle.window.specs.Scan.{Seen, mark_all, visit_answer}
 use Rattle.window.specs.inner.Facts.{ValidWindow, GoodScope, window_on}
 
--- behind the tests: a card with N and L as they should be, a window that is not refused, and a table
+-- behind the tests of a card: N and L as they should be, a window that is not refused, and a table
+pub record Looking (N l : ℕ) (t : Table) (w : Lookahead) : Type 0 where
+  pub sizes : GoodScope N l
+  pub window : ValidWindow w N l
+  pub table : table_ok t ≡ true
+
+-- the same with the card, for callers that have its numbers
 pub record Ready (B N l len : ℕ) (t : Table) (w : Lookahead) : Type 0 where
   pub card : CardFacts B N len
   pub sizes : GoodScope N l
   pub window : ValidWindow w N l
   pub table : table_ok t ≡ true
 
--- what the marking of one file asks: a card, a window of at most 512 offsets on it, and a size up to the largest
-pub record FileAsked (start size B N len : ℕ) (e : Entry) : Type 0 where
-  pub card : CardFacts B N len
+-- what the marking of one file asks: a window of at most 512 offsets on the card, and a size up to the largest
+pub record FileAsked (start size N : ℕ) (e : Entry) : Type 0 where
   pub start_lt : start < N
   pub size_le : size ≤ 512
   pub bytes_le : e.size ≤ size_max

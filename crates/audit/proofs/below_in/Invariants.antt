@@ -5,4 +5,4 @@ use Rattle.ctz.specs.Lists.{down}
 use Rattle.audit.proofs.below_in.Given as goal
 
 abbrev pub invariant-loop : goal.invariant-loop
-invariant-loop l = l.at ≡ down (pointer l.b l.image) l.k l.counter
+invariant-loop l = l.at ≡ down (pointer l.card.block_size l.card.image.now) l.k l.counter

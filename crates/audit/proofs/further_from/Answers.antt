@@ -15,7 +15,7 @@ returns-in-Some c =
 pub pointer-k-requires : goal.pointer-k-requires
 pointer-k-requires c =
     let l = c.loop-index in
-    first_asked l.invariant.1.walks.card (head_below l.invariant.1)
+    first_asked c.args.card.facts (head_below l.invariant.1)
 
 pub loop-index-preserved : goal.loop-index-preserved
 loop-index-preserved c =

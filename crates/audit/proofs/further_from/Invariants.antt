@@ -7,4 +7,4 @@ use Rattle.audit.specs.inner.Bounds.{CleanWalk}
 use Rattle.audit.proofs.further_from.Given as goal
 
 abbrev pub invariant-loop-index : goal.invariant-loop-index
-invariant-loop-index l = (further (pointer l.b l.image) l.top l.head ≡ further (pointer l.b l.image) l.index l.k) × CleanWalk l.image l.b l.n l.index l.k
+invariant-loop-index l = (further (pointer l.card.block_size l.card.image.now) l.top l.head ≡ further (pointer l.card.block_size l.card.image.now) l.index l.k) × CleanWalk l.card.image.now l.card.block_size l.card.block_count l.index l.k

@@ -12,7 +12,7 @@ use Rattle.audit.proofs.pointers_at.Goals as goal
 
 pub pointer-named-requires : goal.pointer-named-requires
 pointer-named-requires c =
-    asked {i = c.args.index} c.requires.clean.walks c.requires.above (omega arith) (omega arith) (head_below c.requires.clean)
+    asked {i = c.args.index} c.args.card.facts c.requires.clean.walks c.requires.above (omega arith) (omega arith) (head_below c.requires.clean)
 
 pub below_in-requires : goal.below_in-requires
 below_in-requires c =
@@ -30,7 +30,7 @@ loop-pointer-preserved c =
     let l = c.loop-pointer in
     let left : ctz a.index + 1 - l.pointer - 1 ≡ ctz a.index + 1 - (l.pointer + 1) = omega arith in
     l.invariant ∙ names_on _ _ _ _ _ _ _ _ (omega arith) c.pointer-named.ensures c.below_in.ensures c.power.ensures c.if-named-below_in.false
-    ∙ ap (λ (m : ℕ). names (pointer a.b a.image.now) m (holder a.index a.k) (l.pointer + 1)) left
+    ∙ ap (λ (m : ℕ). names (pointer a.card.block_size a.card.image.now) m (holder a.index a.k) (l.pointer + 1)) left
 
 pub returns-else-named-below_in : goal.returns-else-named-below_in
 returns-else-named-below_in c =

@@ -9,5 +9,5 @@ use Rattle.audit.proofs.pointers_at.Given as goal
 
 abbrev pub invariant-loop-pointer : goal.invariant-loop-pointer
 invariant-loop-pointer l =
-    names (pointer l.b l.image) (ctz l.index) (holder l.index l.k) 1
-    ≡ names (pointer l.b l.image) (ctz l.index + 1 - l.pointer) (holder l.index l.k) l.pointer
+    names (pointer l.card.block_size l.card.image.now) (ctz l.index) (holder l.index l.k) 1
+    ≡ names (pointer l.card.block_size l.card.image.now) (ctz l.index + 1 - l.pointer) (holder l.index l.k) l.pointer

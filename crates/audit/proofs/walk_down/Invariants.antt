@@ -10,4 +10,4 @@ use Rattle.audit.proofs.Falling.{Agrees}
 use Rattle.audit.proofs.walk_down.Given as goal
 
 abbrev pub invariant-loop-index : goal.invariant-loop-index
-invariant-loop-index l = (ms : List ℕ) × Agrees l.met ms × (falls (pointers_with l.n (pointer l.b l.image)) l.top l.head [] ≡ falls (pointers_with l.n (pointer l.b l.image)) l.index l.k ms)
+invariant-loop-index l = (ms : List ℕ) × Agrees l.met ms × (falls (pointers_with l.card.block_count (pointer l.card.block_size l.card.image.now)) l.top l.head [] ≡ falls (pointers_with l.card.block_count (pointer l.card.block_size l.card.image.now)) l.index l.k ms)

@@ -1,13 +1,13 @@
 -- What the inner functions ask of their callers, as named bounds.
-use Rattle.std.specs.Prelude.{List, ℕ, ◌≤◌, ◌<◌, length}
+use Rattle.std.specs.Prelude.{List, ℕ, ◌≤◌, ◌<◌}
 use Rattle.card.specs.Card.{pointer}
 use Rattle.ctz.specs.Lists.{down}
 use Rattle.ctz.specs.inner.Bounds.{Walks}
 use Rattle.audit.specs.Check.{Holder}
 
--- A clean pointer-0 walk of i steps from block k: a card whose blocks have room for their pointers, and every number on the way is below N.
+-- A clean pointer-0 walk of i steps from block k: the blocks have room for their pointers, and every number on the way is below N.
 pub record CleanWalk (image : List ℕ) (B N i k : ℕ) : Type 0 where
-  pub walks : Walks B N i (length image)
+  pub walks : Walks B i
   pub below : (e : ℕ) → e ≤ i → down (pointer B image) k e < N
 
 -- An index that holds pointers, in block k of such a walk.

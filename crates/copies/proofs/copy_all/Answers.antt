@@ -10,18 +10,18 @@ use Rattle.copies.proofs.copy_all.Goals as goal
 
 pub offset_at-offset-requires : goal.offset_at-offset-requires
 offset_at-offset-requires c =
-    record { served = served c.requires.run.card.sized (omega (arith, c.requires.run.most, c.requires.run.inside)); index = c.index_at-first.ensures }
+    record { served = served c.args.card.facts.sized (omega (arith, c.requires.run.most, c.requires.run.inside)); index = c.index_at-first.ensures }
 
 pub loop-i-init : goal.loop-i-init
 loop-i-init c =
     let e : c.args.pos + (c.args.count - c.args.count) ≡ c.args.pos = omega arith in
-    rw e (begins c.requires c.index_at-top.ensures c.index_at-first.ensures c.index_at-last.ensures c.offset_at-offset.ensures)
+    rw e (begins c.args.card.facts c.requires c.index_at-top.ensures c.index_at-first.ensures c.index_at-last.ensures c.offset_at-offset.ensures)
 
 pub turned-base-requires : goal.turned-base-requires
 turned-base-requires c = turning c.loop-i.invariant (c.loop-i.invariant.more (omega arith))
 
-pub overflow_sub-b : goal.overflow_sub-b
-overflow_sub-b c = omega (arith, offset_less c.loop-i.invariant (c.loop-i.invariant.more (omega arith)) c.turned-base.ensures)
+pub overflow_sub-card : goal.overflow_sub-card
+overflow_sub-card c = omega (arith, offset_less c.loop-i.invariant (c.loop-i.invariant.more (omega arith)) c.turned-base.ensures)
 
 pub overflow_sub-i : goal.overflow_sub-i
 overflow_sub-i c = c.turned-base.ensures.from
@@ -41,7 +41,7 @@ overflow_sub-left c =
 pub overflow_add-to : goal.overflow_add-to
 overflow_add-to c =
     let s = turn c.loop-i.invariant (c.loop-i.invariant.more (omega arith)) c.turned-base.ensures c.min-part.result c.min-part.ensures in
-    omega (arith, s.most_left, c.loop-i.invariant.fits, c.loop-i.invariant.long, c.well_formed.1.1.1.1.1.1.1.1.1.0)
+    omega (arith, s.most_left, c.loop-i.invariant.fits, c.loop-i.invariant.long, c.well_formed.1.1.1.1.1.1.1.0)
 
 pub overflow_mul-offset : goal.overflow_mul-offset
 overflow_mul-offset c =

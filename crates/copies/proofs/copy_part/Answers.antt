@@ -8,4 +8,4 @@ use Rattle.copies.proofs.copy_part.Goals as goal
 pub returns : goal.returns
 returns c =
     c.copy.ensures
-    ∙ ap (sets c.args.buffer.now c.args.to) (lent_part c.args.image.now (c.args.k * c.args.b) c.args.b _ _ c.requires.inside)
+    ∙ ap (sets c.args.buffer.now c.args.to) (lent_part c.args.card.image.now (c.args.k * c.args.card.block_size) c.args.card.block_size _ _ c.requires.inside)

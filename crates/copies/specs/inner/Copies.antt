@@ -1,5 +1,5 @@
 -- What the functions that copy bytes ask of their callers, and what they leave.
-use Rattle.std.specs.Prelude.{◌≡◌, Result, Ok, List, ℕ, ◌+◌, ◌*◌, ◌≤◌, ◌<◌, length}
+use Rattle.std.specs.Prelude.{◌≡◌, Result, Ok, List, ℕ, ◌+◌, ◌*◌, ◌≤◌, ◌<◌}
 use Rattle.std.proofs.lemmas.List.Edits.{sets}
 use Rattle.layout.specs.declared.Refusal.{Refusal}
 use Rattle.layout.specs.inner.Served.{block_list}
@@ -18,21 +18,20 @@ unfoldable pub copied_of : List ℕ → Gathered → Copied
 copied_of buffer g = record { whole = clean g; after = sets buffer 0 (got_bytes g) }
 
 -- n bytes from position p on, at least one, with room for all.
-pub record Roomy (B N size p n len room : ℕ) : Type 0 where
-  pub run : Ranged B N size p n len
+pub record Roomy (size p n room : ℕ) : Type 0 where
+  pub run : Ranged size p n
   pub some : 0 < n
   pub fits : n ≤ room
 
 -- A part of a block that lies in the image, with room for it from place `to` on.
 pub record Parted (B k off m to len room : ℕ) : Type 0 where
   pub block : k * B + B ≤ len
-  pub whole : len ≤ 16777216
   pub inside : off + m ≤ B
   pub fits : to + m ≤ room
 
 -- The lookups of all their blocks find them, the first are noted, and there is room for the bytes from place `to` on.
 pub record Cleared (image : List ℕ) (B N head size p n to room : ℕ) (blocks : List ℕ) : Type 0 where
-  pub run : Ranged B N size p n (length image)
+  pub run : Ranged size p n
   pub some : 0 < n
   pub found : clean (gather n (card_with B N image) (block_list head size) (range p n)) ≡ Ok tt
   pub noted : Noted image B N head size p n blocks

@@ -6,7 +6,7 @@ use Rattle.ctz.proofs.find_in.Goals as goal
 
 pub walk_to-requires : goal.walk_to-requires
 walk_to-requires c =
-    rw c.index_at-top.ensures (walks c.requires.card c.requires.most)
+    rw c.index_at-top.ensures (walks c.args.card.facts c.requires.most)
 
 pub returns : goal.returns
 returns c =

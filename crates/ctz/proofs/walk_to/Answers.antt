@@ -24,7 +24,7 @@ returns-then-cur-tgt c = sym (c.hop.invariant.1 ∙ walk_at _ _ _ _ _ _ _ _ (ome
 pub pointer-block-requires : goal.pointer-block-requires
 pointer-block-requires c =
     let l = c.hop in
-    asked {i = l.cur} c.requires (omega arith) (omega arith)
+    asked {i = l.cur} c.args.card.facts c.requires (omega arith) (omega arith)
     (omega (arith, c.skip-x.ensures, pick_stored l.cur c.args.tgt)) (omega arith)
 
 pub power-cur-requires : goal.power-cur-requires

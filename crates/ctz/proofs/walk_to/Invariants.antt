@@ -9,7 +9,7 @@ use Rattle.ctz.proofs.walk_to.Given as goal
 
 abbrev pub invariant-hop : goal.invariant-hop
 invariant-hop l = (l.hops + l.cur ≤ l.top)
-    × (walk (suc l.top) (pointers_with l.n (pointer l.b l.image)) (target l.tgt l.offset) (stand l.top l.head 0) ≡ walk (suc (l.top - l.hops)) (pointers_with l.n (pointer l.b l.image)) (target l.tgt l.offset) (stand l.cur l.block l.hops))
+    × (walk (suc l.top) (pointers_with l.card.block_count (pointer l.card.block_size l.card.image.now)) (target l.tgt l.offset) (stand l.top l.head 0) ≡ walk (suc (l.top - l.hops)) (pointers_with l.card.block_count (pointer l.card.block_size l.card.image.now)) (target l.tgt l.offset) (stand l.cur l.block l.hops))
 
 abbrev pub decreases-hop : goal.decreases-hop
 decreases-hop l = l.cur - l.tgt

@@ -25,8 +25,8 @@ abbrev pub RunFound : (ℕ → ℕ → ℕ) → ℕ → ℕ → ℕ → ℕ → 
 RunFound ptr N head top first count blocks j = (m : ℕ) → j ≤ m → m < count → Finds ptr N head top (first + m) (get_or blocks m 0)
 
 -- A run whose indexes past first + j are known.
-pub record RunKnown (ptr : ℕ → ℕ → ℕ) (B N head top first count j len : ℕ) (blocks : List ℕ) : Type 0 where
-  pub asked : RunAsked B N top first count len (length blocks)
+pub record RunKnown (ptr : ℕ → ℕ → ℕ) (B N head top first count j : ℕ) (blocks : List ℕ) : Type 0 where
+  pub asked : RunAsked B top first count (length blocks)
   pub next : j < count
   pub known : RunFound ptr N head top first count blocks (suc j)
 

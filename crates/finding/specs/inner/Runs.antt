@@ -37,8 +37,8 @@ pub record Tested (ptr : ℕ → ℕ → ℕ) (N head top first last : ℕ) (who
   pub lost : (e : Refusal) → whole ≡ Err e → (e ≡ Damaged) × Missed ptr N head top first last
 
 -- Indexes of a list that can be walked.
-pub record Indexed (B N top last len : ℕ) : Type 0 where
-  pub walks : Walks B N top len
+pub record Indexed (B top last : ℕ) : Type 0 where
+  pub walks : Walks B top
   pub below : last ≤ top
   pub short : top < 2 ^ 26
 
@@ -49,14 +49,14 @@ pub record Held (ptr : ℕ → ℕ → ℕ) (N head top base last : ℕ) (blocks
 
 -- Indexes that are found, to be noted from `base` on.
 pub record Notable (image : List ℕ) (B N head top base last room : ℕ) : Type 0 where
-  pub list : Indexed B N top last (length image)
+  pub list : Indexed B top last
   pub inside : base ≤ last
   pub reached : Reached (pointer B image) N head top base last
   pub long : room ≡ 1024
 
 -- Those noted from `base` on, and an index for which they are asked.
 pub record Turning (image : List ℕ) (B N head top base i last : ℕ) (blocks : List ℕ) : Type 0 where
-  pub list : Indexed B N top last (length image)
+  pub list : Indexed B top last
   pub from : base ≤ i
   pub inside : i ≤ last
   pub reached : Reached (pointer B image) N head top i last
@@ -71,8 +71,8 @@ pub record Turned (ptr : ℕ → ℕ → ℕ) (N head top base i last : ℕ) (bl
 -- ---- a run of n positions from p on
 
 -- Some positions of a list, with room for the blocks of 1,024 indexes.
-pub record RunSought (B N size p n len room : ℕ) : Type 0 where
-  pub run : Ranged B N size p n len
+pub record RunSought (size p n room : ℕ) : Type 0 where
+  pub run : Ranged size p n
   pub some : 0 < n
   pub long : room ≡ 1024
 

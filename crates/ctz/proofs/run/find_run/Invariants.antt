@@ -6,4 +6,4 @@ use Rattle.ctz.specs.inner.Runs.{RunFound}
 use Rattle.ctz.proofs.run.find_run.Given as goal
 
 abbrev pub invariant-loop-j : goal.invariant-loop-j
-invariant-loop-j l = (length l.blocks ≡ length l.initial.blocks) × RunFound (pointer l.b l.image) l.n l.head l.top l.first l.count l.blocks l.j
+invariant-loop-j l = (length l.blocks ≡ length l.initial.blocks) × RunFound (pointer l.card.block_size l.card.image.now) l.card.block_count l.head l.top l.first l.count l.blocks l.j

@@ -15,10 +15,10 @@ power-d-requires c = let a = c.args in omega (arith, trailing_lt 32 32 (a.first 
 pub pointer-block-requires : goal.pointer-block-requires
 pointer-block-requires c =
     near_asked c.requires c.power-d.result (omega arith) c.power-d.ensures (omega arith) c.ranges.top.fits
-    (omega arith)
+    c.args.card.facts (omega arith)
 
-pub returns-then-n-block : goal.returns-then-n-block
-returns-then-n-block c =
+pub returns-then-card-block : goal.returns-then-card-block
+returns-then-card-block c =
     let p = c.power-d in
     near_lost c.requires p.result (omega arith) p.ensures (omega arith) c.ranges.top.fits (omega (arith, c.pointer-block.ensures))
 

@@ -1,7 +1,8 @@
 -- `grow::attempts::extend_scan` meets its contract: what is left to do equals the whole growth (`Rest`), and each try lowers the checkpoint count. Assumes nothing.
 use mathlib.Core.Path.{ap, ◌∙◌}
+use native.Mathlib.Omega.{arith}
 use Rattle.std.specs.Prelude.{Ok, Err}
-use Rattle.grow.proofs.Extends.{rest_start, rest_ready, block_linking, falls, moves_on, ends_done, ends_refused}
+use Rattle.grow.proofs.Extends.{rest_start, rest_looking, block_linking, falls, moves_on, ends_done, ends_refused}
 use borrow.Author.Rules.{rules}
 use Rattle.grow.proofs.attempts.extend_scan.Goals as goal
 
@@ -11,7 +12,7 @@ loop-k-init c =
 
 pub alloc_in-took-requires : goal.alloc_in-took-requires
 alloc_in-took-requires c =
-    rest_ready c.requires c.loop-k.invariant
+    rest_looking c.requires c.loop-k.invariant
 
 pub try_block-requires : goal.try_block-requires
 try_block-requires c =

@@ -10,15 +10,15 @@ returns-then-size-pos c = place_past _ _ _ _ _ _ c.if-size-pos.true
 
 pub overflow_mul-result : goal.overflow_mul-result
 overflow_mul-result c =
-    let i = lies c.args.image.now _ _ c.requires c.if-size-pos.false (sym c.in_ok-found.ensures) in omega (arith, i.block)
+    let i = lies c.args.card.image.now _ _ (record { card = c.args.card.facts; most = c.requires }) c.if-size-pos.false (sym c.in_ok-found.ensures) in omega (arith, i.block)
 
 pub overflow_add-result : goal.overflow_add-result
 overflow_add-result c =
-    let i = lies c.args.image.now _ _ c.requires c.if-size-pos.false (sym c.in_ok-found.ensures) in omega (arith, i.offset, i.block)
+    let i = lies c.args.card.image.now _ _ (record { card = c.args.card.facts; most = c.requires }) c.if-size-pos.false (sym c.in_ok-found.ensures) in omega (arith, i.offset, i.block)
 
-pub overflow_sub-b : goal.overflow_sub-b
-overflow_sub-b c =
-    let i = lies c.args.image.now _ _ c.requires c.if-size-pos.false (sym c.in_ok-found.ensures) in omega (arith, i.offset)
+pub overflow_sub-card : goal.overflow_sub-card
+overflow_sub-card c =
+    let i = lies c.args.card.image.now _ _ (record { card = c.args.card.facts; most = c.requires }) c.if-size-pos.false (sym c.in_ok-found.ensures) in omega (arith, i.offset)
 
 pub returns : goal.returns
 returns c = place_part _ _ _ _ _ _ _ c.if-size-pos.false (sym c.in_ok-found.ensures) c.min.ensures
@@ -26,4 +26,4 @@ returns c = place_part _ _ _ _ _ _ _ c.if-size-pos.false (sym c.in_ok-found.ensu
 pub returns-in_err-found : goal.returns-in_err-found
 returns-in_err-found c =
     let p = err_from_is_err_and c.from_residual.result c.from_residual.ensures.1 in
-    rw (p.1, p.2) (place_lost _ _ _ c.requires c.if-size-pos.false (sym c.in_err-found.ensures))
+    rw (p.1, p.2) (place_lost _ _ _ (record { card = c.args.card.facts; most = c.requires }) c.if-size-pos.false (sym c.in_err-found.ensures))
