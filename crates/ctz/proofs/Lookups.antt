@@ -22,7 +22,15 @@ use Rattle.ctz.specs.inner.Bounds.{LookupAsked}
 use Rattle.ctz.proofs.Walked.{found_parts, Trail, lost, here, onward, trail}
 
 module _ (B N : ℕ) (image : List ℕ) (head size p : ℕ) where
+  pub lookup_card : good_card (geometry B N) (length image) ≡ false → Err Invalid ≡ lookup_of (card_with B N image) (block_list head size) p
+  unfolding lookup_of
+  lookup_card g = rw (lookup_of, g)
+
   module _ (g : good_card (geometry B N) (length image) ≡ true) where
+    pub lookup_large : 2147483647 < size → Err Invalid ≡ lookup_of (card_with B N image) (block_list head size) p
+    unfolding lookup_of
+    lookup_large l = rw (lookup_of, g, lt-ltb _ _ l)
+
     pub lookup_empty : size ≤ 2147483647 → size ≡ 0 → found_at 4294967295 0 0 ≡ lookup_of (card_with B N image) (block_list head size) p
     unfolding lookup_of
     lookup_empty l z = rw (lookup_of, g, le-ltb _ _ l, eq-eqb _ _ z)
