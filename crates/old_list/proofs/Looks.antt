@@ -85,7 +85,7 @@ look_below {B} {N} e img p k g l f = go (walk_to (card_with B N img) (block_list
 -- a lookup that is refused is lost
 pub look_refused : {B N : ℕ} (e : Entry) {len : ℕ} (img : List ℕ) (p : ℕ) → ListFacts B N e.size len → p < e.size
     → {r : Refusal} → walk_to (card_with B N img) (block_list e.head e.size) p ≡ Err r → Err r ≡ looked_of (look_in B N e img p)
-look_refused e img p g l w = rw w (ap Err (found_answers img e.head (record { card = g.card; most = g.most; below = l }) w))
+look_refused e img p g l w = rw w (ap Err (found_answers img e.head g.card (record { most = g.most; below = l }) w))
 
 -- what an answer of the code tells
 pub told_block : (x : Look) (k : ℕ) → looked_of x ≡ Ok k → x ≡ Look.Found k

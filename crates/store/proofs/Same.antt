@@ -84,7 +84,7 @@ module _ (B N l : ℕ) (image health : List ℕ) (w : Lookahead) (t : Table) (i 
           → written_of t i (write_out (cut_down (look_on (setting B N l health) (list_of (file t i)) image) (suc p)) image w) ≡ shrinks B N image w t i (suc p)
       by (Ok found) e = rw (shrunk_by, cut_down, e) refl
       by (Err r) e =
-          let d = found_answers image (file t i).head (record { card = a.ready.card; most = a.most; below = omega arith }) e in
+          let d = found_answers image (file t i).head a.ready.card (record { most = a.most; below = omega arith }) e in
           rw (shrunk_by, cut_down, e, d) refl
 
   -- a truncate of the file

@@ -14,5 +14,18 @@ returns c =
     let offset : SFits w32 c.signed.result = record { sfits = c.signed.type_inv } in
     let whence : SFits w32 c.signed-2.result = record { sfits = c.signed-2.type_inv } in
     c.told.ensures
-    ∙ rw (bare_is c.from-a.result.code _ (search rules) c.bare.ensures, c.from-a.ensures, c.seek.ensures, to_z-of_z offset, to_z-of_z whence,
-    c.one_file.ensures, c.word.ensures, c.word-2.ensures, c.signed.ensures, c.word-3.ensures, c.signed-2.ensures, c.word-4.ensures, seek_equal)
+    ∙ rw (
+      bare_is c.from-a.result.code _ (search rules) c.bare.ensures,
+      c.from-a.ensures,
+      c.seek.ensures,
+      to_z-of_z offset,
+      to_z-of_z whence,
+      c.one_file.ensures,
+      c.word.ensures,
+      c.word-2.ensures,
+      c.signed.ensures,
+      c.word-3.ensures,
+      c.signed-2.ensures,
+      c.word-4.ensures,
+      seek_equal,
+    )
