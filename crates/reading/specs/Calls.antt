@@ -3,7 +3,7 @@ use Rattle.std.specs.Prelude.{true, false, Result, Ok, Err, List, ℕ, ltb, leng
 use Rattle.std.proofs.lemmas.List.Edits.{sets}
 use Rattle.layout.specs.declared.Geometry.{Geometry}
 use Rattle.layout.specs.declared.Refusal.{Refusal}
-use Rattle.layout.specs.declared.Refusal.TheVariants.{Missing, Invalid, Damaged}
+use Rattle.layout.specs.declared.Refusal.TheVariants.{Invalid, Damaged}
 use Rattle.layout.specs.Numbers.{size_max}
 use Rattle.layout.specs.Layout.{Position}
 use Rattle.card.specs.Card.{Card, good_card}
