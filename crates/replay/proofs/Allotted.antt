@@ -12,7 +12,6 @@ use Rattle.span.proofs.Parts.{part_sets}
 use Rattle.layout.specs.declared.Geometry.{Geometry}
 use Rattle.files.specs.declared.Table.{Table}
 use Rattle.files.proofs.Tests.{both_left, both_right}
-use Rattle.window.specs.Allocate.{Allocated}
 use Rattle.window.specs.declared.Lookahead.{Lookahead}
 use Rattle.window.specs.declared.Windowed.{Windowed}
 use Rattle.grow.specs.Extend.{Growth, extend_of}
