@@ -36,8 +36,9 @@ pub fn program(
         (program_of health.now b k off (take n (drop from src.now)) image.old)
         result image.new }
 {
-    let at = place(health, b, k, off)?;
-    span::copy(image, at, src, from, n);
+    let start = place(health, b, k, 0)?;
+    let end = start + b as usize;
+    span::copy(&mut image[start..end], off as usize, src, from, n);
     Ok(())
 }
 
@@ -55,8 +56,9 @@ pub fn program_zeros(
         (program_of health.now b k off (replicate n 0) image.old)
         result image.new }
 {
-    let at = place(health, b, k, off)?;
-    span::fill(image, at, n as usize, 0);
+    let start = place(health, b, k, 0)?;
+    let end = start + b as usize;
+    span::fill(&mut image[start..end], off as usize, n as usize, 0);
     Ok(())
 }
 
@@ -74,8 +76,9 @@ pub fn program_word(
         (program_of health.now b k off (bytes32 v) image.old)
         result image.new }
 {
-    let at = place(health, b, k, off)?;
-    span::put_word(image, at, v);
+    let start = place(health, b, k, 0)?;
+    let end = start + b as usize;
+    span::put_word(&mut image[start..end], off as usize, v);
     Ok(())
 }
 

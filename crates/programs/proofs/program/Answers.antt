@@ -1,15 +1,17 @@
--- `programs::program` meets its contract: the bytes go to their place, if the block takes them. Assumes nothing.
+-- `programs::program` meets its contract: a block that takes them is lent, and the bytes are copied into it. Assumes nothing.
 use mathlib.Core.Path.{sym, ◌∙◌}
-use lib.ListN.{take, drop}
-use Rattle.programs.proofs.Places.{place_refused, place_stored}
+use native.Mathlib.Omega.{arith}
+use lib.ListN.{take, drop, length-take, length-drop}
+use Rattle.programs.proofs.Places.{place_refused, place_lent}
 use Rattle.programs.proofs.program.Goals as goal
 
-pub returns-in_err-at : goal.returns-in_err-at
-returns-in_err-at c =
+pub returns-in_err-start : goal.returns-in_err-start
+returns-in_err-start c =
     let a = c.args in
-    place_refused a.health.now a.b a.k a.off (take a.n (drop a.from a.src.now)) a.image.now (sym c.place.ensures ∙ c.in_err-at.was) c.from_residual.ensures.0
+    place_refused a.health.now a.b a.k a.off (take a.n (drop a.from a.src.now)) a.image.now _ (sym c.place.ensures ∙ c.in_err-start.was) c.from_residual.ensures.0
 
 pub returns : goal.returns
 returns c =
     let a = c.args in
-    place_stored a.health.now a.b a.k a.off (take a.n (drop a.from a.src.now)) a.image.now (sym c.place.ensures ∙ c.in_ok-at.was) c.copy.ensures
+    place_lent a.health.now a.b a.k a.off (take a.n (drop a.from a.src.now)) a.image.now (sym c.place.ensures ∙ c.in_ok-start.was) c.requires.0.inside
+    (simp (length-take, length-drop) (omega arith)) c.copy.ensures

@@ -8,7 +8,7 @@ use Rattle.programs.proofs.program_copy.Goals as goal
 pub returns-in_err-to : goal.returns-in_err-to
 returns-in_err-to c =
     let a = c.args in
-    place_refused a.health.now a.b a.k a.off (take a.n (drop (a.from_block * a.b + a.from_off) a.image.now)) a.image.now (sym c.place.ensures ∙ c.in_err-to.was) c.from_residual.ensures.0
+    place_refused a.health.now a.b a.k a.off (take a.n (drop (a.from_block * a.b + a.from_off) a.image.now)) a.image.now _ (sym c.place.ensures ∙ c.in_err-to.was) c.from_residual.ensures.0
 
 pub returns : goal.returns
 returns c =
