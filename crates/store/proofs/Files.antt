@@ -87,7 +87,7 @@ module _ (B N : ℕ) (image : List ℕ) (w : Lookahead) (t : Table) (i size : �
         → stays (Ok tt) w u ≡ stored_of (shrinks B N image w t i size)
     shrinks_found e f = rw (shrinks_some z, ← g, e, f)
 
-    pub shrinks_refused : {r : Refusal} → x ≡ Err r → stays (Err r) w t ≡ stored_of (shrinks B N image w t i size)
+    pub shrinks_refused : {r : Refusal} → x ≡ Err r → stays (Err refusal.Damaged) w t ≡ stored_of (shrinks B N image w t i size)
     shrinks_refused e = rw (shrinks_some z, ← g, e)
 
   -- card and window stay as they were

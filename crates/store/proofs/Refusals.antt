@@ -66,7 +66,7 @@ module _ {w : Lookahead} {t : Table} {image : List ℕ} where
           → Ends w t image (elim b [ true ↦ left (Ok tt) w (with_list t i (record { head = null_block; size = 0 })) image | false ↦ shrunk t i size w image x ])
       go true x = done _ _ _ _ _
       go false (Ok found) = done _ _ _ _ _
-      go false (Err r) = kept (Err r)
+      go false (Err r) = kept (Err refusal.Damaged)
 
 module _ (B N l : ℕ) (image health : List ℕ) (w : Lookahead) (t : Table) (number : ℕ) where
   module _ (p : ℕ) (src : List ℕ) where

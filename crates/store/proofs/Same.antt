@@ -4,7 +4,7 @@ use mathlib.Core.Bool.{Bool, true, false}
 use mathlib.Core.List.{List}
 use Prim.Native.Nat.{ℕ, zero, suc, ◌+◌, ◌-◌, ◌≤◌, ◌<◌}
 use native.Mathlib.Omega.{arith}
-use borrow.Author.Tests.{ltb-true, ltb-false, eqb-false}
+use borrow.Author.Tests.{ltb-false, eqb-false}
 use lib.Dec.{ltb, eqb}
 use lib.ListN.{length, length-replicate}
 use Rattle.layout.specs.Numbers.{size_max}
@@ -14,7 +14,6 @@ use Rattle.std.specs.Prelude.{Result, Ok, Err}
 use Rattle.layout.specs.declared.Refusal.{Refusal}
 use Rattle.ctz.specs.declared.Found as ctz
 use Rattle.ctz.specs.Lookup.{walk_to}
-use Rattle.ctz.proofs.Lookups.{found_answers}
 use Rattle.files.specs.declared.Table.{Table}
 use Rattle.files.specs.Table.{file, list_of}
 use Rattle.window.specs.declared.Lookahead.{Lookahead}
@@ -68,10 +67,10 @@ module _ (B N l : ℕ) (image health : List ℕ) (w : Lookahead) (t : Table) (i 
           rw (write_at, write_file, e, f, g) (ap (written_of t i) (put_same p src (ltb-false size_max (p + length src) f) (omega arith)))
 
   -- the file cut down
-  cut_same : (size : ℕ) → size < (file t i).size → written_of t i (write_out (cut_down (look_on (setting B N l health) (list_of (file t i)) image) size) image w) ≡ shrinks B N image w t i size
+  cut_same : (size : ℕ) → written_of t i (write_out (cut_down (look_on (setting B N l health) (list_of (file t i)) image) size) image w) ≡ shrinks B N image w t i size
   unfolding cut_down shrinks
-  cut_same zero m = refl
-  cut_same (suc p) m = by (walk_to (card_with B N image) (block_list (file t i).head (file t i).size) p) refl
+  cut_same zero = refl
+  cut_same (suc p) = by (walk_to (card_with B N image) (block_list (file t i).head (file t i).size) p) refl
     where
       -- the lookup is that of byte size - 1
       shrunk_by : shrinks B N image w t i (suc p) ≡ shrunk t i (suc p) w image (walk_to (card_with B N image) (block_list (file t i).head (file t i).size) p)
@@ -83,9 +82,7 @@ module _ (B N l : ℕ) (image health : List ℕ) (w : Lookahead) (t : Table) (i 
       by : (x : Result ctz.Found Refusal) → walk_to (card_with B N image) (block_list (file t i).head (file t i).size) p ≡ x
           → written_of t i (write_out (cut_down (look_on (setting B N l health) (list_of (file t i)) image) (suc p)) image w) ≡ shrinks B N image w t i (suc p)
       by (Ok found) e = rw (shrunk_by, cut_down, e) refl
-      by (Err r) e =
-          let d = found_answers image (file t i).head a.ready.card (record { most = a.most; below = omega arith }) e in
-          rw (shrunk_by, cut_down, e, d) refl
+      by (Err r) e = rw (shrunk_by, cut_down, e) refl
 
   -- a truncate of the file
   pub size_same : (number size : ℕ)
@@ -96,7 +93,7 @@ module _ (B N l : ℕ) (image health : List ℕ) (w : Lookahead) (t : Table) (i 
       by : (x : Bool) → ltb size_max size ≡ x → (y : Bool) → ltb size (file t i).size ≡ y → (z : Bool) → eqb size (file t i).size ≡ z
           → truncate_at (setting B N l health) (state w t image) (ask_truncate number size) i ≡ truncate_file B N l image health w t i size
       by true e y f z g = rw (truncate_at, truncate_file, e) refl
-      by false e true f z g = rw (truncate_at, truncate_file, e, f) (cut_same size (ltb-true size (file t i).size f))
+      by false e true f z g = rw (truncate_at, truncate_file, e, f) (cut_same size)
       by false e false f true g = rw (truncate_at, truncate_file, e, f, g) refl
       by false e false f false g =
           let m = ltb-false size_max size e in

@@ -62,6 +62,6 @@ pub fn shrink(b: u32, n: u32, image: &[u8], w: Lookahead, t: Table, i: u32, size
             window: w,
             table: files::change::put(t, i, size, found.block),
         },
-        Err(refusal) => left(Err(refusal), w, t),
+        Err(_) => left(Err(Refusal::Damaged), w, t),
     }
 }

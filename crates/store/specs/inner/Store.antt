@@ -37,7 +37,7 @@ write_file B N l image health w t i p src =
 -- Shrinking takes the block of the last kept byte as head and leaves card and window as they were; to 0 gives the null head.
 abbrev pub shrunk : Table → ℕ → ℕ → Lookahead → List ℕ → Result Found Refusal → StoreOut
 shrunk t i size w image (Ok found) = left (Ok tt) w (change.with_list t i (record { head = found.block; size = size })) image
-shrunk t i size w image (Err r) = left (Err r) w t image
+shrunk t i size w image (Err r) = left (Err refusal.Damaged) w t image
 
 unfoldable pub shrinks : ℕ → ℕ → List ℕ → Lookahead → Table → ℕ → ℕ → StoreOut
 shrinks B N image w t i size =
