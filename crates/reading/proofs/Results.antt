@@ -1,9 +1,10 @@
 -- What read and stretch answer and leave, by what the tests said. Assumes nothing.
-use mathlib.Core.Path.{◌≡◌, refl, sym}
+use mathlib.Core.Path.{◌≡◌, refl, sym, ap, ◌∙◌}
 use mathlib.Core.List.{List}
-use Prim.Native.Nat.{ℕ, ◌+◌, ◌≤◌}
+use Prim.Native.Nat.{ℕ, ◌+◌, ◌-◌, ◌≤◌}
+use native.Mathlib.Nat.{add-sub_cancel_left}
 use native.Mathlib.Omega.{arith}
-use lib.ListN.{length}
+use lib.ListN.{length, take, drop}
 use Rattle.std.specs.Prelude.{Result, Ok, Err}
 use Rattle.layout.specs.declared.Refusal.{Refusal}
 use Rattle.layout.specs.inner.Served.{block_list, geometry}
@@ -13,7 +14,7 @@ use Rattle.plain.specs.inner.Forms.{range}
 use Rattle.files.specs.declared.Entry.{Entry}
 use Rattle.files.specs.declared.Table.{Table}
 use Rattle.reading.specs.declared.Part.{Part}
-use Rattle.reading.specs.Calls.{given, asked_of, read_of, placed_of, stretch_of, placed_place, placed_length}
+use Rattle.reading.specs.Calls.{given, asked_of, read_of, placed_of, stretch_of, stretch_bytes, placed_place, placed_length}
 use Rattle.reading.specs.inner.Bounds.{file_position}
 use Rattle.reading.proofs.Asks.{listed}
 use Rattle.reading.proofs.Inner.{stretch_inside}
@@ -54,5 +55,12 @@ module _ (B N : ℕ) (image : List ℕ) (t : Table) (number p : ℕ) where
           rw (sym (place_file q)) h
       go (Err r) q = rw (sym (place_refused q)) (omega arith)
 
-  pub part_within : {part : Part} → Ok part ≡ stretch_of (card_with B N image) t (file_position number p) → part.place + part.length ≤ length image
-  part_within q = let h = stretch_within in rw (sym q) at h
+  pub placed_within : (q : Result Part Refusal) (a n : ℕ) → q ≡ stretch_of (card_with B N image) t (file_position number p) → a ≡ placed_place q → n ≡ placed_length q → a + n ≤ length image
+  placed_within q a n e f h = omega (arith, f ∙ ap placed_place e, h ∙ ap placed_length e, stretch_within)
+
+-- the part that the code takes
+pub stretch_part : (image : List ℕ) (s : Result Part Refusal) (q : Result Part Refusal) (a n : ℕ) → q ≡ s → a ≡ placed_place q → n ≡ placed_length q
+    → take (a + n - a) (drop a image) ≡ stretch_bytes image s
+stretch_part image s q a n e f h =
+    ap (λ (x : ℕ). take x (drop a image)) (add-sub_cancel_left a n)
+    ∙ ap (λ (x : ℕ). take n (drop x image)) (f ∙ ap placed_place e) ∙ ap (λ (x : ℕ). take x (drop (placed_place s) image)) (h ∙ ap placed_length e)

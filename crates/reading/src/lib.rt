@@ -5,7 +5,7 @@ mod list;
 
 ghost use Rattle.std.specs.Prelude.{◌≡◌};
 ghost use Rattle.card.specs.Card.{card_of};
-ghost use Rattle.reading.specs.Calls.{entry_of, read_of, stretch_of, stretch_bytes};
+ghost use Rattle.reading.specs.Calls.{entry_of, read_of, stretch_of, stretch_bytes, placed_place, placed_length};
 
 use card::Card;
 use files::{Entry, Table};
@@ -64,16 +64,32 @@ pub fn stretch_place(
     list::place_in(card, file.head, file.size, pos)
 }
 
+// The place of a stretch; 0 on a refusal.
+pub fn place_of(p: Result<Part, Refusal>) -> u32
+    ensures { result ≡ placed_place p }
+{
+    match p {
+        Ok(part) => part.place,
+        Err(_) => 0,
+    }
+}
+
+// The length of a stretch; 0 on a refusal.
+pub fn length_of(p: Result<Part, Refusal>) -> u32
+    ensures { result ≡ placed_length p }
+{
+    match p {
+        Ok(part) => part.length,
+        Err(_) => 0,
+    }
+}
+
 // The stretch itself: the part of the caller's own image at that place, of that length; a refusal gives the empty part at place 0.
-#[tactic(auto, using(crate::proofs::Results::part_within))]
 pub fn stretch<'a>(g: Geometry, image: &'a [u8], t: Table, number: u32, pos: u32) -> &'a [u8]
     ensures { result.now ≡ stretch_bytes image.now (stretch_of (card_of g image.now) t (record { number = number; position = pos })) }
 {
-    match stretch_place(g, image, t, number, pos) {
-        Ok(part) => {
-            let place = part.place as usize;
-            &image[place..place + part.length as usize]
-        }
-        Err(_) => &image[..0],
-    }
+    let placed = stretch_place(g, image, t, number, pos);
+    let place = place_of(placed) as usize;
+    let length = length_of(placed) as usize;
+    &image[place..place + length]
 }
