@@ -97,6 +97,9 @@ pub fn fill_block(
     let past = pos + data.len() as u32;
     let new = e.size.max(past);
     let m = (new - s).min(b - off);
-    front(image, health, b, k, off, s, m, pos, data)?;
-    tail(image, health, b, n, e, k, off, s, m, past)
+    // A match and no question mark, so that what a refusing block leads to stands here, where its edit changes it.
+    match front(image, health, b, k, off, s, m, pos, data) {
+        Ok(()) => tail(image, health, b, n, e, k, off, s, m, past),
+        Err(Spoiled) => Err(Failed::Spoiled),
+    }
 }
