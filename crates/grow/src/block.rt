@@ -5,6 +5,7 @@ ghost use Rattle.device.specs.inner.Bounds.{Blank};
 ghost use Rattle.grow.specs.inner.Attempt.{attempt_of, try_of, LinkGives, Linking, put_pointers};
 
 use crate::{Failed, Grown};
+use device::Spoiled;
 use layout::Refusal;
 
 // The pointers of block `k`: the first names `head`, each next is read from the block just named; each is tested before it is programmed.
@@ -67,11 +68,14 @@ fn link(
         let count = layout::pointer_count(index + 1);
         return put_pointers(image, health, b, n, k, count, head);
     }
-    programs::program_copy(image, health, b, k, 0, head, 0, used)?;
-    Ok(Grown {
-        block: k,
-        offset: used,
-    })
+    // A match and no question mark, here and in `try_block`, so that what a refusing block leads to stands here, where its edit changes it.
+    match programs::program_copy(image, health, b, k, 0, head, 0, used) {
+        Ok(()) => Ok(Grown {
+            block: k,
+            offset: used,
+        }),
+        Err(_) => Err(Failed::Spoiled),
+    }
 }
 
 // A try with block `k`: erased, and linked to the list.
@@ -89,6 +93,8 @@ pub fn try_block(
         (try_of health.now b n k head size image.old)
         result image.new }
 {
-    device::erase(image, health, b, k)?;
-    link(image, health, b, n, k, head, size)
+    match device::erase(image, health, b, k) {
+        Ok(()) => link(image, health, b, n, k, head, size),
+        Err(Spoiled) => Err(Failed::Spoiled),
+    }
 }

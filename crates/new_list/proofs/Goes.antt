@@ -98,6 +98,11 @@ module _ {B N l : ℕ} {health : List ℕ} {t : Table} {e : Entry} {pos : ℕ} {
             go (inl n) = rw n (rw n at by)
             go (inr n) = rw n (rw n at by)
 
+        -- the same, of a refusal that is named
+        pub ends_named : (q r : Refusal) → g.answer ≡ Err q → q ≡ r
+            → WroteGives (on_from B N l health t e pos src w₀ h₀ s₀ img₀) (record { answer = Err r; window = g.window }) img₁
+        ends_named q r a n = rw n at (ends_stopped q a)
+
         valid_on : ValidWindow g.window N l
         valid_on = rw p.window grows.valid
 

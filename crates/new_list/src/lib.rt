@@ -67,6 +67,13 @@ fn write_on(
                     }
                 }
             }
+            // The next arm would do for -28 too; it has one of its own, so that its edit changes it and no other.
+            Err(Refusal::NoSpace) => {
+                return Windowed {
+                    answer: Err(Refusal::NoSpace),
+                    window,
+                };
+            }
             Err(refusal) => {
                 return Windowed {
                     answer: Err(refusal),

@@ -1,7 +1,8 @@
 -- `new_list::write_on` meets its contract: what is left to do equals the whole write (`Rest`), and each growth lowers the checkpoint count. Assumes nothing.
 use mathlib.Core.Path.{ap, ◌∙◌}
 use Rattle.std.specs.Prelude.{Err}
-use Rattle.new_list.proofs.Goes.{rest_start, rest_extends, rest_fills, falls, goes_on, moves_on, ends_done, ends_stopped, ends_lost, loop_new, loop_end}
+use Rattle.layout.specs.declared.Refusal.TheVariants.{NoSpace}
+use Rattle.new_list.proofs.Goes.{rest_start, rest_extends, rest_fills, falls, goes_on, moves_on, ends_done, ends_stopped, ends_named, ends_lost, loop_new, loop_end}
 use Rattle.new_list.proofs.write_on.Goals as goal
 
 pub loop-list-init : goal.loop-list-init
@@ -43,6 +44,11 @@ returns-in-Err-Refused c =
     rw c.in-Err-Refused.refusal-is
     (ends_lost c.requires c.loop-list.invariant (loop_new c.requires c.max-new.ensures c.loop-list-test.true) c.extend_in-grew.ensures
     c.in-Ok.is c.fill_block.ensures _ (c.in-Err-Refused.is ∙ ap Err c.in-Err-Refused.field-0-is))
+
+pub returns-in-Err-NoSpace : goal.returns-in-Err-NoSpace
+returns-in-Err-NoSpace c =
+    ends_named c.requires c.loop-list.invariant (loop_new c.requires c.max-new.ensures c.loop-list-test.true)
+    c.extend_in-grew.ensures _ NoSpace c.in-Err-NoSpace.is (rw c.in-Err-NoSpace.is at c.in-Err-NoSpace.field-0-is)
 
 pub returns-in-Err : goal.returns-in-Err
 returns-in-Err c =

@@ -1,6 +1,5 @@
 -- `grow::attempts::extend_scan` meets its contract: what is left to do equals the whole growth (`Rest`), and each try lowers the checkpoint count. Assumes nothing.
 use mathlib.Core.Path.{ap, ◌∙◌}
-use native.Mathlib.Omega.{arith}
 use Rattle.std.specs.Prelude.{Ok, Err}
 use Rattle.grow.proofs.Extends.{rest_start, rest_looking, block_linking, falls, moves_on, ends_done, ends_refused}
 use borrow.Author.Rules.{rules}

@@ -2,7 +2,6 @@
 use mathlib.Core.Path.{refl}
 use Prim.Native.Nat.{◌+◌, ◌-◌}
 use native.Mathlib.Omega.{arith}
-use Rattle.std.proofs.lemmas.Result.{err_from_is_err_and}
 use Rattle.device.proofs.Blanks.{blank_part}
 use Rattle.grow.proofs.Rooms.{room_of, source_of, gives}
 use Rattle.grow.proofs.Links.{attempt_empty, attempt_damaged, attempt_spoiled, attempt_copied, attempt_pointers, used_fits, index_fits, next_fits}
@@ -45,17 +44,15 @@ program_copy-requires c =
     let r = c.offset_at-used.ensures in
     (room_of _ _ _ c.requires.0 refl (omega arith), source_of _ _ _ c.requires.0 (omega arith) (omega arith), blank_part _ _ (omega arith) (omega arith) c.requires.2)
 
-pub returns : goal.returns
-returns c =
+pub returns-in-Ok : goal.returns-in-Ok
+returns-in-Ok c =
     let a = c.args in
     gives _ _
     (attempt_copied a.health.now a.b a.n a.k a.head a.size a.image.now (a.size - 1) (omega arith) _ (omega arith) c.program_copy.ensures (omega (arith, c.offset_at-used.ensures))
-    c.if-used-b.false c.in_ok-program_copy.was)
+    c.if-used-b.false c.in-Ok.is)
 
-pub returns-in_err-program_copy : goal.returns-in_err-program_copy
-returns-in_err-program_copy c =
+pub returns-in-Err : goal.returns-in-Err
+returns-in-Err c =
     let a = c.args in
-    let p = err_from_is_err_and c.from_residual.result c.from_residual.ensures.1 in
-    rw (p.1, p.2)
-    (gives _ _
-    (attempt_spoiled a.health.now a.b a.n a.k a.head a.size a.image.now (a.size - 1) (omega arith) (c.offset_at-used.result + 1) (omega arith) c.program_copy.ensures c.in_err-program_copy.was))
+    gives _ _
+    (attempt_spoiled a.health.now a.b a.n a.k a.head a.size a.image.now (a.size - 1) (omega arith) (c.offset_at-used.result + 1) (omega arith) c.program_copy.ensures c.in-Err.is)
