@@ -68,7 +68,8 @@ fn link(
         let count = layout::pointer_count(index + 1);
         return put_pointers(image, health, b, n, k, count, head);
     }
-    // A match and no question mark, here and in `try_block`, so that what a refusing block leads to stands here, where its edit changes it.
+    // A match and no question mark, here and in `try_block`, so that what a refusing block leads to stands in an arm, which its edit changes: that the two
+    // patterns differ lets each edit find its own.
     match programs::program_copy(image, health, b, k, 0, head, 0, used) {
         Ok(()) => Ok(Grown {
             block: k,

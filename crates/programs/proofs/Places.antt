@@ -1,4 +1,4 @@
--- A program by the place that it goes to: there is none where the block refuses, and else the bytes are stored there, in a block that is lent. Assumes nothing.
+-- A program by the place that it goes to: there is none where the block refuses, and else the bytes are stored there, in the image or in a block of it that is lent. Assumes nothing.
 use mathlib.Core.Path.{◌≡◌, refl}
 use mathlib.Core.Bool.{Bool, true, false}
 use mathlib.Core.List.{List}

@@ -1,4 +1,4 @@
--- `programs::program` meets its contract: a block that takes them is lent, and the bytes are copied into it. Assumes nothing.
+-- `programs::program` meets its contract: a block that does not refuse is lent, and the bytes are copied into it. Assumes nothing.
 use mathlib.Core.Path.{sym, ◌∙◌}
 use native.Mathlib.Omega.{arith}
 use lib.ListN.{take, drop, length-take, length-drop}

@@ -1,4 +1,4 @@
--- `programs::program_word` meets its contract: a block that takes them is lent, and the word is put into it. Assumes nothing.
+-- `programs::program_word` meets its contract: a block that does not refuse is lent, and the word is put into it. Assumes nothing.
 use mathlib.Core.Path.{sym, ◌∙◌}
 use Rattle.span.specs.Words.{bytes32}
 use Rattle.span.proofs.Words.{length_bytes32}

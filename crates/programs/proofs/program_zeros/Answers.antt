@@ -1,4 +1,4 @@
--- `programs::program_zeros` meets its contract: a block that takes them is lent, and zeros are filled in. Assumes nothing.
+-- `programs::program_zeros` meets its contract: a block that does not refuse is lent, and zeros are filled in. Assumes nothing.
 use mathlib.Core.Path.{sym, ◌∙◌}
 use lib.ListN.{replicate, length-replicate}
 use Rattle.programs.proofs.Places.{place_refused, place_lent}
